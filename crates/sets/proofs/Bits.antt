@@ -1,16 +1,17 @@
 -- The bits of a mask, over any width.
 use mathlib.Core.Path.{_≡_, refl, sym, _∙_, ap, subst}
-use mathlib.Core.Bool.{Bool, true, false}
+use mathlib.Core.Bool.{not}
 use mathlib.Core.Logic.{_⊎_, inl, inr}
 use Prim.Native.Nat.{ℕ, zero, suc, _+_, _-_, _*_, _/_, _%_, _^_, _≤_, _<_, min, max}
 use native.Mathlib.Nat.{pow-succ', div-div-eq-div-mul, zero-div, div-one, div-eq-of-lt}
 use native.Mathlib.Omega.{arith}
 use native.Mathlib.Decide.{ℕ-discrete, decLt}
 use lib.Bits.{bitOr, bitAnd, or-shr, or-step, and-shr, and-step, and-comm, and-mask}
-use lib.Dec.{eqb}
+use lib.Dec.{eqb, ltb}
 use lib.Pow.{pow-mono}
 use Rattle.std.specs.Orderings.{Decides}
-use Rattle.std.proofs.shelf.Tests.{eqb-true, eq-eqb}
+use Rattle.std.proofs.shelf.Tests.{eqb-true, eq-eqb, ltb-true, lt-ltb}
+use Rattle.std.proofs.shelf.Ways.{decides-eqb, decides-like, decides-not}
 use Rattle.std.proofs.shelf.Bits.{shr-shr, one-shl}
 use Rattle.sets.specs.Sets.{Has, Is, Inside, Below}
 
@@ -165,6 +166,15 @@ pub bit-tells : (m x : ℕ) → Decides (eqb (bitAnd (m / 2 ^ x) 1) 1) (Has m x)
 bit-tells m x =
     let k = and-mask (m / 2 ^ x) 1 in
     (λ e. let i = eqb-true (bitAnd (m / 2 ^ x) 1) 1 e in omega arith, λ h. eq-eqb _ 1 (omega arith))
+
+-- past the width of a mask no bit is set
+pub past-tells : (k m x : ℕ) → m < 2 ^ k → k ≤ x → Decides (ltb x k) (Has m x)
+past-tells k m x small past =
+    (λ e. absurd (let lt = ltb-true x k e in omega arith), λ h. lt-ltb x k (has-below k m x small h))
+
+-- the test of an empty mask
+pub some-tells : (m : ℕ) → Decides (not (eqb m 0)) ((x : ℕ) × Has m x)
+some-tells m = decides-like _ (has-some m) (λ h. some-not m (h .0) (h .1)) (decides-not _ (decides-eqb m 0))
 
 pub power-has : (p x : ℕ) → Has (2 ^ p) x → x ≡ p
 power-has zero zero h = refl

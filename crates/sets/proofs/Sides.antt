@@ -1,10 +1,11 @@
 -- Bearable, basic and large sets: parts, covers, and searches over a list.
-use mathlib.Core.Path.{_≡_, refl}
+use mathlib.Core.Path.{_≡_, refl, sym, subst}
 use mathlib.Core.Bool.{Bool, true, false}
 use mathlib.Core.List.{List}
 use mathlib.Core.Logic.{_⊎_, inl, inr}
-use Prim.Native.Nat.{ℕ, _≤_, _<_}
+use Prim.Native.Nat.{ℕ, _+_, _≤_, _<_}
 use native.Mathlib.Omega.{arith}
+use native.Mathlib.Decide.{ℕ-discrete}
 use lib.Bits.{bitAnd}
 use lib.ListN.{length}
 use Rattle.std.specs.Orderings.{Decides}
@@ -12,7 +13,7 @@ use Rattle.std.proofs.shelf.Tests.{false≢true}
 use Rattle.std.proofs.shelf.Ways.{decides-like}
 use Rattle.sets.specs.Sets.{Has, Set, Is, Inside, Bearable, Basic, Large}
 use Rattle.sets.specs.Covers.{CoveredWith}
-use Rattle.sets.proofs.Bits.{has?}
+use Rattle.sets.proofs.Bits.{has?, none-has}
 
 pub decides-yes : {P : Type 0} → P → Decides true P
 decides-yes p = (λ _. p, λ _. refl)
@@ -64,3 +65,20 @@ module _ (faults : List ℕ) (m : ℕ) (s : Set) (is : Is m s) (r : Bool) where
 
   pub large-of : Decides r (Large faults (Has m)) → Decides r (Large faults s)
   large-of d = decides-like r (large-more faults (Has m) s (λ x. is x .0)) (large-more faults s (Has m) (λ x. is x .1)) d
+
+-- a mask that a loop fills, unit by unit
+module _ (s : Set) where
+  pub mask-none : Is 0 (λ y. (y < 0) × s y)
+  mask-none y = (λ h. absurd (none-has y h), λ k. absurd (let l = k .0 in omega arith))
+
+  pub mask-more : (m n x : ℕ) → Is m (λ y. (y < x) × s y) → Is n (λ y. Has m y ⊎ (y ≡ x)) → s x → Is n (λ y. (y < x + 1) × s y)
+  mask-more m n x is js here y = (
+    λ h. elim (js y .0 h) [ inl k ↦ let j = is y .0 k in (omega arith, j .1) | inr e ↦ (omega arith, subst s (sym e) here) ],
+    λ k. let l = k .0 in js y .1 (elim (ℕ-discrete y x) [ yes e ↦ inr e | no ne ↦ inl (is y .1 (omega arith, k .1)) ]),
+  )
+
+  pub mask-same : (m x : ℕ) → Is m (λ y. (y < x) × s y) → (s x → ⊥) → Is m (λ y. (y < x + 1) × s y)
+  mask-same m x is out y = (
+    λ h. let j = is y .0 h in (omega arith, j .1),
+    λ k. let l = k .0 in is y .1 (elim (ℕ-discrete y x) [ yes e ↦ absurd (out (subst s e (k .1))) | no ne ↦ (omega arith, k .1) ]),
+  )

@@ -48,6 +48,13 @@ pub fn shared(s: u16, t: u16) -> u16
     s & t
 }
 
+// The units of either.
+pub fn joined(s: u16, t: u16) -> u16
+    ensures { λ r. ⌜ Is r (λ x. Has s x ⊎ Has t x) ⌝ }
+{
+    s | t
+}
+
 // The units of a that are not in b.
 pub fn without(a: u16, b: u16) -> u16
     ensures { λ r. ⌜ Is r (λ x. Has a x × (Has b x → ⊥)) ⌝ }

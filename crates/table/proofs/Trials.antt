@@ -13,7 +13,7 @@ use Rattle.std.proofs.shelf.Tests.{eq-eqb, eqb-true, leb-true, le-leb, and-part
 use Rattle.std.proofs.shelf.Ways.{decides-eqb, decides-ltb, decides-like, decides-not, decides-and, decides-or, decides-below-and, decides-below-or}
 use Rattle.base.specs.Limits.{units-most, fault-sets-most, quorums-most}
 use Rattle.sets.specs.Sets.{Has, Set, Is, Inside, Below, Bearable, Basic, Large}
-use Rattle.sets.proofs.Bits.{or-has, has-or, and-has, has-and, inside-mask, mask-inside, same-mask, shift-below, below-shift, has-some, some-not}
+use Rattle.sets.proofs.Bits.{or-has, has-or, and-has, has-and, inside-mask, mask-inside, same-mask, shift-below, below-shift, some-tells as some-tells-mask}
 use Rattle.sets.proofs.Sides.{bearable-of, basic-of, large-of}
 use Rattle.table.specs.declared.question.Question.{Question}
 use Rattle.table.specs.declared.question.Question.the-variants as asked
@@ -64,9 +64,6 @@ inside-tells a b = decides-like _ (mask-inside a b) (inside-mask a b) (decides-e
 
 below-tells : (n m : ℕ) → Decides (eqb (m / 2 ^ n) 0) (Below n m)
 below-tells n m = decides-like _ (shift-below n m) (below-shift n m) (decides-eqb (m / 2 ^ n) 0)
-
-some-unit-tells : (m : ℕ) → Decides (not (eqb m 0)) ((x : ℕ) × Has m x)
-some-unit-tells m = decides-like _ (has-some m) (λ h. some-not m (h .0) (h .1)) (decides-not _ (decides-eqb m 0))
 
 same-tells : (a b : ℕ) → Decides (eqb a b) (Is a (Has b))
 same-tells a b =
@@ -186,7 +183,7 @@ fine-tells asked.FaultSet tb i = below-tells (tb .units) (getD (tb .faults) i 0)
 fine-tells asked.QuorumCount tb i = between-tells _ _
 fine-tells asked.Entry tb i =
     decides-like _ (λ k. (k .0, k .1 .0, k .1 .1)) (λ k. (k .0, (k .1, k .2)))
-    (decides-and _ _ (some-unit-tells (quorumAt tb i .set))
+    (decides-and _ _ (some-tells-mask (quorumAt tb i .set))
     (decides-and _ _ (below-tells (tb .units) (quorumAt tb i .set)) (between-tells (classOf tb i) 3)))
 fine-tells (asked.Pairs pair) tb i = every-tells _ (FinePair pair tb i) (pair-tells pair tb i) (length (tb .quorums))
 

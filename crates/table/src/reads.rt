@@ -4,9 +4,10 @@ ghost use Rattle.std.specs.Orderings.{Decides};
 ghost use Rattle.std.specs.Options.{Cases as BySome};
 ghost use Rattle.sets.specs.Sets.{Has, Bearable, Basic, Large};
 ghost use Rattle.table.specs.Tables.{Proper, IsQuorum, quorumAt};
-ghost use Rattle.table.specs.Means.{means};
+ghost use Rattle.table.specs.Means.{listed, means};
 use crate::passed::Passed;
 use crate::quorum::Quorum;
+use crate::table::Table;
 
 impl Passed<'_> {
     // How many units there are.
@@ -28,6 +29,17 @@ impl Passed<'_> {
         ensures { λ r. ⌜ now r ≡ means (now (self .entry)) .quorums ⌝ }
     {
         &self.quorums[..self.qcount]
+    }
+
+    // The lists, as a table again.
+    pub fn table(&self) -> Table<'_>
+        ensures { λ r. ⌜ listed r ≡ means (now (self .entry)) ⌝ }
+    {
+        Table {
+            units: self.units,
+            faults: self.faults(),
+            quorums: self.quorums(),
+        }
     }
 
     // The units and the class of the quorum at a place, or none where no quorum is listed there.

@@ -1,0 +1,5 @@
+pub mod Reports
+pub mod Lives
+pub mod Chosen
+pub mod Steps
+pub mod Samples
