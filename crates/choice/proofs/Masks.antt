@@ -13,13 +13,7 @@ use Rattle.sets.specs.Sets.{Has, Set, Is, Inside, Bearable, Basic, faultAt}
 use Rattle.sets.proofs.Bits.{has?, none-has}
 use Rattle.sets.proofs.Sides.{basic-of}
 use Rattle.ticket.specs.declared.writing.Writing.{Writing}
-use Rattle.std.specs.declared.option.Option.{Option}
-use Rattle.rows.specs.declared.row.Row.{Row}
-use Rattle.rows.specs.declared.asked.Test.{Test}
-use Rattle.rows.specs.declared.rule.Rule.{Rule}
-use Rattle.rows.specs.declared.rule.Rule.the-variants as rules
-use Rattle.rows.specs.Rows.{Grid, cell, Holds, Against, Wanted}
-use Rattle.rows.specs.Rules.{Needed, testOf}
+use Rattle.rows.specs.Rows.{Grid, cell, Holds, Against}
 use Rattle.choice.specs.Reports.{Later}
 
 -- a and b share the mask m; of it the mask n is what is not in s
@@ -69,10 +63,3 @@ module _ (kept : Grid) (v : ℕ) (t : Writing) where
       | no ne ↦ let b = l .2 in inl (is x .1 (l .0, l .1, omega arith, l .3))
     ]),
   )
-
--- the rows that a rule's test finds are those that the rule asks
-pub needed-is : (rule : Rule) (p m : ℕ) (t : Writing) (rows : ℕ → Option Row) (test : Test) → test ≡ testOf rule p
-    → Is m (λ x. Holds (rows x) (Wanted test t)) → Is m (λ x. Holds (rows x) (Needed rule p t))
-needed-is rules.First p m t rows test e is = subst (λ (z : Test). Is m (λ x. Holds (rows x) (Wanted z t))) e is
-needed-is rules.Second p m t rows test e is = subst (λ (z : Test). Is m (λ x. Holds (rows x) (Wanted z t))) e is
-needed-is rules.Third p m t rows test e is = subst (λ (z : Test). Is m (λ x. Holds (rows x) (Wanted z t))) e is

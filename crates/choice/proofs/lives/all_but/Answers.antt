@@ -5,7 +5,8 @@ use Rattle.rows.specs.Rows.{cell, Holds}
 use Rattle.rows.specs.Rules.{Needed}
 use Rattle.table.specs.Tables.{quorumAt}
 use Rattle.table.specs.Means.{listed}
-use Rattle.choice.proofs.Masks.{outside-tells, needed-is}
+use Rattle.rows.proofs.Facts.{needed-is}
+use Rattle.choice.proofs.Masks.{outside-tells}
 use Rattle.choice.proofs.lives.all_but.Needs as need
 
 pub returns : need.returns

@@ -1,0 +1,2 @@
+pub mod Entirely
+pub mod Grown
