@@ -14,7 +14,8 @@ impl Passed<'_> {
     pub fn units(&self) -> u32
         ensures { λ r. ⌜ r ≡ means (now (self .entry)) .units ⌝ }
     {
-        self.units
+        let Passed { units, .. } = self;
+        *units
     }
 
     // The listed fault sets.

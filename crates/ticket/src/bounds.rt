@@ -12,21 +12,21 @@ pub const PICKS: u32 = 1000000;
 pub const LOOMS: u32 = 65535;
 
 // Whether a plan can have so many ends.
-pub fn ends_fit(ends: u32) -> bool
+pub(crate) fn ends_fit(ends: u32) -> bool
     ensures { λ r. ⌜ r ≡ endsFit ends ⌝ }
 {
     1 <= ends && ends <= ENDS
 }
 
 // Whether a plan can have so many picks, and a piece can be cut at this pick.
-pub fn picks_fit(picks: u32) -> bool
+pub(crate) fn picks_fit(picks: u32) -> bool
     ensures { λ r. ⌜ r ≡ picksFit picks ⌝ }
 {
     1 <= picks && picks <= PICKS
 }
 
 // Whether a word is a set of looms that an order can hold.
-pub fn looms_fit(set: u32) -> bool
+pub(crate) fn looms_fit(set: u32) -> bool
     ensures { λ r. ⌜ r ≡ loomsFit set ⌝ }
 {
     1 <= set && set <= LOOMS

@@ -28,8 +28,8 @@ pub fn word_at(bytes: &[u8], at: usize) -> u32
     first_word(&bytes[at..])
 }
 
-// The writing of sixteen bytes.
-pub fn writing_of(bytes: &[u8; 16]) -> Writing
+// The four words of sixteen bytes.
+fn words_of(bytes: &[u8; 16]) -> Writing
     ensures { λ r. ⌜ r ≡ writingOf (now (bytes .entry)) ⌝ }
 {
     Writing {
@@ -40,14 +40,23 @@ pub fn writing_of(bytes: &[u8; 16]) -> Writing
     }
 }
 
-// The sixteen bytes of a writing.
-pub fn bytes_of(w: Writing) -> [u8; 16]
-    ensures { λ r. ⌜ r ≡ bytesOf w ⌝ }
+// The writing of sixteen bytes. Its bytes are these again.
+pub fn writing_of(bytes: &[u8; 16]) -> Writing
+    ensures is { λ r. ⌜ r ≡ writingOf (now (bytes .entry)) ⌝ }
+    ensures back { λ r. ⌜ bytesOf r ≡ now (bytes .entry) ⌝ }
 {
-    let a = w.a.to_be_bytes();
-    let b = w.b.to_be_bytes();
-    let c = w.c.to_be_bytes();
-    let d = w.d.to_be_bytes();
+    words_of(bytes)
+}
+
+// The sixteen bytes of a writing. They are read as this writing again.
+pub fn bytes_of(writing: Writing) -> [u8; 16]
+    ensures is { λ r. ⌜ r ≡ bytesOf writing ⌝ }
+    ensures back { λ r. ⌜ writingOf r ≡ writing ⌝ }
+{
+    let a = writing.a.to_be_bytes();
+    let b = writing.b.to_be_bytes();
+    let c = writing.c.to_be_bytes();
+    let d = writing.d.to_be_bytes();
     [
         a[0],
         a[1],
@@ -66,19 +75,4 @@ pub fn bytes_of(w: Writing) -> [u8; 16]
         d[2],
         d[3],
     ]
-}
-
-// Reading a writing's bytes gives the writing back.
-pub fn writing_back(w: Writing) -> Writing
-    ensures { λ r. ⌜ r ≡ w ⌝ ∗ ⌜ writingOf (bytesOf w) ≡ w ⌝ }
-{
-    let bytes = bytes_of(w);
-    writing_of(&bytes)
-}
-
-// Writing what sixteen bytes were read as gives the bytes back.
-pub fn bytes_back(bytes: &[u8; 16]) -> [u8; 16]
-    ensures { λ r. ⌜ r ≡ now (bytes .entry) ⌝ ∗ ⌜ bytesOf (writingOf (now (bytes .entry))) ≡ now (bytes .entry) ⌝ }
-{
-    bytes_of(writing_of(bytes))
 }

@@ -16,11 +16,18 @@ pub fn write<T: Ticket>(ticket: &T) -> [u8; 16]
     bytes_of(ticket.writing())
 }
 
+// The ticket of the writing that sixteen bytes are.
+fn read_writing<T: Ticket>(bytes: &[u8; 16]) -> Result<T, TicketFault>
+    ensures { λ r. ⌜ Cases r (λ t. (refuses (writingOf (now (bytes .entry))) ≡ None) × (written t ≡ writingOf (now (bytes .entry)))) (λ e. refuses (writingOf (now (bytes .entry))) ≡ Some e) ⌝ }
+{
+    T::of_writing(writing_of(bytes))
+}
+
 // The ticket that sixteen bytes are the writing of; refused exactly if no ticket of the kind is written so.
 pub fn read<T: Ticket>(bytes: &[u8; 16]) -> Result<T, TicketFault>
     ensures { λ r. ⌜ Cases r (λ t. (refuses (writingOf (now (bytes .entry))) ≡ None) × (bytesOf (written t) ≡ now (bytes .entry))) (λ e. (refuses (writingOf (now (bytes .entry))) ≡ Some e) × ((t : T) → bytesOf (written t) ≡ now (bytes .entry) → ⊥)) ⌝ }
 {
-    T::of_writing(writing_of(bytes))
+    read_writing(bytes)
 }
 
 // Reading what was written gives the ticket back.

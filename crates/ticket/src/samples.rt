@@ -15,7 +15,7 @@ use crate::reading::read;
 use crate::writing::Writing;
 
 // Whether the rose damask's plan with so many ends is read from its sixteen bytes.
-pub fn reads_ends(ends: u32) -> bool
+fn reads_ends(ends: u32) -> bool
     ensures { λ r. ⌜ r ≡ not (isSome (planRefuses (withEnds ends))) ⌝ }
 {
     let bytes = bytes_of(Writing {

@@ -25,6 +25,15 @@ const MILL: [Quorum; 5] = [
     Quorum { set: 14, class: 2 },
 ];
 
+// The mill's table: four units, of which any one may be false.
+pub fn mill_table() -> Table<'static> {
+    Table {
+        units: 4,
+        faults: &ONE_OF_FOUR,
+        quorums: &MILL,
+    }
+}
+
 // What a table fails, in words.
 fn words(fault: TableFault) -> &'static str {
     match fault {

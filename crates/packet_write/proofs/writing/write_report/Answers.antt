@@ -1,0 +1,6 @@
+use Rattle.packet_write.specs.Writes.{writing}
+use Rattle.packet_write.proofs.writing.write_report.Needs as need
+
+pub returns : need.returns
+unfolding writing
+returns c = c .lay-report .ensures

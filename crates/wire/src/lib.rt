@@ -1,0 +1,32 @@
+// What a wire is, and what is written once for every wire.
+mod answers;
+mod fault;
+mod laws;
+mod quiet;
+mod send;
+mod slot;
+mod slots;
+mod wire;
+
+pub use answers::Counts;
+pub use answers::CountsDebug;
+pub use answers::CountsEq;
+pub use answers::CountsPartialEq;
+pub use answers::Found;
+pub use answers::FoundDebug;
+pub use answers::FoundEq;
+pub use answers::FoundPartialEq;
+pub use answers::Tally;
+pub use answers::TallyDebug;
+pub use answers::TallyEq;
+pub use answers::TallyPartialEq;
+pub use fault::WireFault;
+pub use fault::WireFaultCode;
+pub use fault::WireFaultDebug;
+pub use fault::WireFaultEq;
+pub use fault::WireFaultPartialEq;
+pub use laws::runs_keep_packets;
+pub use quiet::nothing_waits;
+pub use send::send_all;
+pub use slot::Slot;
+pub use wire::Wire;
