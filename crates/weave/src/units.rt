@@ -97,7 +97,29 @@ fn show_action(rt: &impl Print, what: &str, did: Result<Sends, UnitFault>) -> io
     }
 }
 
-// Unit 0 leads view 0 and puts; three units hear the put, unit 3 does not.
+// Unit 0 leads view 0 and puts; units 0 to 2 hear the put, the others do not.
+fn drive(
+    rt: &impl Print,
+    passed: &Passed<'_>,
+    ticket: Writing,
+    units: &mut [ControlUnit],
+) -> io::Result<()> {
+    if units.len() < 3 {
+        return println!(rt, "too few units");
+    }
+    show_action(rt, "unit 1 puts in view 0", units[1].put(passed, 1, ticket))?;
+    show_action(rt, "unit 0 puts in view 0", units[0].put(passed, 0, ticket))?;
+    show_action(rt, "unit 0 puts again", units[0].put(passed, 0, ticket))?;
+    give(&mut units[0..3], passed, 0, put_letter(0, ticket));
+    show_all(rt, units, 0)?;
+    println!(rt, "the rows of units 0, 1 and 2 go round twice")?;
+    give_rows(units, passed, 0);
+    give_rows(units, passed, 0);
+    show_all(rt, units, 0)?;
+    show_action(rt, "unit 0 raises to view 8", units[0].raise(0, 8))?;
+    show_action(rt, "unit 0 raises to view 1", units[0].raise(0, 1))
+}
+
 pub fn show_units(rt: &impl Print, passed: &Passed<'_>, ticket: Writing) -> io::Result<()> {
     let mut units = [
         ControlUnit::fresh(),
@@ -105,15 +127,5 @@ pub fn show_units(rt: &impl Print, passed: &Passed<'_>, ticket: Writing) -> io::
         ControlUnit::fresh(),
         ControlUnit::fresh(),
     ];
-    show_action(rt, "unit 1 puts in view 0", units[1].put(passed, 1, ticket))?;
-    show_action(rt, "unit 0 puts in view 0", units[0].put(passed, 0, ticket))?;
-    show_action(rt, "unit 0 puts again", units[0].put(passed, 0, ticket))?;
-    give(&mut units[0..3], passed, 0, put_letter(0, ticket));
-    show_all(rt, &units, 0)?;
-    println!(rt, "the rows of units 0, 1 and 2 go round twice")?;
-    give_rows(&mut units, passed, 0);
-    give_rows(&mut units, passed, 0);
-    show_all(rt, &units, 0)?;
-    show_action(rt, "unit 0 raises to view 8", units[0].raise(0, 8))?;
-    show_action(rt, "unit 0 raises to view 1", units[0].raise(0, 1))
+    drive(rt, passed, ticket, &mut units)
 }
