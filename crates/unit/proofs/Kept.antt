@@ -23,7 +23,7 @@ use Rattle.unit.specs.declared.fault.UnitFault.the-variants as faults
 use Rattle.unit.specs.Laws.{LetterKeeps, ActionKeeps, LeftRowsStay}
 
 -- the view and the other own rows stay
-abbrev Keeps : State → State → Type 0
+abbrev pub Keeps : State → State → Type 0
 Keeps s s′ = (s′ .view ≡ s .view) × ((v : ℕ) → ¬ (v ≡ s .view) → ownAt s′ v ≡ ownAt s v)
 
 keeps-then : (a b c : State) → Keeps a b → Keeps b c → Keeps a c
@@ -60,12 +60,12 @@ module _ (tb : QuorumTable) where
   put-keeps : (t : Writing) (s : State) → Keeps s (onPut tb t s)
   put-keeps t s = let a = withOwn (Some _) s in keeps-then s a (growOwn tb a) (own-keeps _ s) (grow-own-keeps a)
 
-  letter-keeps : (x : ℕ) (letter : Letter) (s : State) → Keeps s (letterDone tb x letter s)
+  pub letter-keeps : (x : ℕ) (letter : Letter) (s : State) → Keeps s (letterDone tb x letter s)
   letter-keeps x (letters.Put v t) s = put-keeps t s
   letter-keeps x (letters.Row v r) s = row-keeps x v r s
   letter-keeps x (letters.Report w rows) s = (refl, λ v m. refl)
 
-raised : (u w : ℕ) (s : State) → raiseFault u w s ≡ None → s .view < w
+pub raised : (u w : ℕ) (s : State) → raiseFault u w s ≡ None → s .view < w
 raised u w s e = go (both? (decLt (s .view) w) (decLt w views)) e
   where
     go : (d : Dec ((s .view < w) × (w < views))) → pick d None (Some (faults.NotAbove u)) ≡ None → s .view < w
