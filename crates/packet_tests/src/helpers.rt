@@ -5,7 +5,7 @@ use packet::read;
 use ticket::Ticket;
 
 // Words laid out as bytes, high byte first; at most 64 of them.
-pub fn laid_out(words: &[u32]) -> [u8; 256] {
+pub(crate) fn laid_out(words: &[u32]) -> [u8; 256] {
     let mut bytes = [0; 256];
     let mut k = 0;
     for word in words {
@@ -22,7 +22,7 @@ pub fn laid_out(words: &[u32]) -> [u8; 256] {
 }
 
 // The number and the place of the fault that the first bytes of these words give, or two zeros where they are read.
-pub fn told<T: Ticket>(words: &[u32], length: usize, quorums: u32) -> (u32, usize) {
+pub(crate) fn told<T: Ticket>(words: &[u32], length: usize, quorums: u32) -> (u32, usize) {
     let bytes = laid_out(words);
     let length = if length < 256 { length } else { 255 };
     match read::<T>(&bytes[0..length], quorums) {

@@ -9,6 +9,8 @@ ghost use Rattle.rows.specs.Rows.{rowIn, cell};
 ghost use Rattle.unit.specs.States.{means, ownAt};
 ghost use Rattle.unit.specs.Rules.{noted, withCell, ticketFault, hear, growOwn, growAt, ruled, announce, onRow};
 use crate::announcement::Announcement;
+use crate::cells::cell_of;
+use crate::cells::set_cell;
 use crate::fault::UnitFault;
 use crate::state::ControlUnit;
 use growth::grow;
@@ -18,14 +20,6 @@ use rows::Rule;
 use table::Passed;
 use ticket::Writing;
 use ticket::WritingPartialEq;
-
-// The row of a sender; none for a number that no unit has.
-fn row_of(rows: &[Option<Row>; 16], x: u32) -> Option<Row>
-    ensures { λ r. ⌜ r ≡ rowIn (now (rows .entry)) x ⌝ }
-{
-    let x = x as usize;
-    if x < 16 { rows[x] } else { None }
-}
 
 // What is held of a sender once a row arrives.
 fn note(held: Option<Row>, row: Row) -> Row
@@ -39,34 +33,6 @@ fn note(held: Option<Row>, row: Row) -> Row
             mark: old.mark || row.mark,
         },
     }
-}
-
-// The sender's row is stored; nothing is for a number that no unit has.
-fn store(rows: &mut [Option<Row>; 16], x: u32, row: Row)
-    ensures { λ _. ⌜ now (rows .exit) ≡ set (now (rows .entry)) x (Some row) ⌝ }
-{
-    let x = x as usize;
-    if x < 16 {
-        rows[x] = Some(row);
-    }
-}
-
-// Stores what a sender said in view v; nothing for a view or a number that is not there.
-fn store_at(grid: &mut [[Option<Row>; 16]; 8], v: u32, x: u32, row: Row)
-    ensures { λ _. ⌜ now (grid .exit) ≡ withCell (now (grid .entry)) v x (Some row) ⌝ }
-{
-    let v = v as usize;
-    if v < 8 {
-        store(&mut grid[v], x, row);
-    }
-}
-
-// What a sender said in view v.
-pub(crate) fn cell_of(grid: &[[Option<Row>; 16]; 8], v: u32, x: u32) -> Option<Row>
-    ensures { λ r. ⌜ r ≡ cell (now (grid .entry)) v x ⌝ }
-{
-    let v = v as usize;
-    if v < 8 { row_of(&grid[v], x) } else { None }
 }
 
 fn same_ticket(a: Writing, b: Writing) -> bool
@@ -136,7 +102,7 @@ pub(crate) fn hear_row(unit: &mut ControlUnit, x: u32, v: u32, row: Row)
     ensures { λ _. ⌜ means (now (unit .exit)) ≡ hear x v row (means (now (unit .entry))) ⌝ }
 {
     let held = cell_of(&unit.heard, v, x);
-    store_at(&mut unit.heard, v, x, note(held, row));
+    set_cell(&mut unit.heard, v, x, Some(note(held, row)));
 }
 
 // The own row grows, if v is the unit's view.

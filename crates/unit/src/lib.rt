@@ -1,6 +1,7 @@
 // One control unit: its state, its rules, and what it sends.
 mod actions;
 mod announcement;
+mod cells;
 mod fault;
 mod hearing;
 mod laws;

@@ -1,7 +1,6 @@
 // Puts: the unit's own, and one that arrives.
 ghost use mathlib.Core.Path.{_≡_};
 ghost use Prim.Native.Nat.{_%_, _<_};
-ghost use lib.ListN.{set};
 ghost use Rattle.std.specs.Orderings.{Decides};
 ghost use Rattle.std.specs.Results.{Cases};
 ghost use Rattle.std.specs.declared.option.Option.the-variants.{Some, None};
@@ -10,6 +9,7 @@ ghost use Rattle.unit.specs.States.{means, ownAt};
 ghost use Rattle.unit.specs.Reported.{ticketBy, putTicket, SomeAllows};
 ghost use Rattle.unit.specs.Rules.{putFault, onPut, ownPutFault, onOwnPut};
 ghost use Rattle.unit.specs.Sending.{sendsPut};
+use crate::cells::set_in;
 use crate::fault::UnitFault;
 use crate::hearing::grow_own;
 use crate::letter::Sends;
@@ -114,16 +114,6 @@ pub(crate) fn put_fault(
     }
 }
 
-// The row of a view is set; nothing is for a view that is not there.
-fn set_row(rows: &mut [Option<Row>; 8], v: u32, row: Row)
-    ensures { λ _. ⌜ now (rows .exit) ≡ set (now (rows .entry)) v (Some row) ⌝ }
-{
-    let v = v as usize;
-    if v < 8 {
-        rows[v] = Some(row);
-    }
-}
-
 // The own row becomes the ticket with an empty set and no mark, and grows.
 pub(crate) fn take_put(unit: &mut ControlUnit, passed: &Passed<'_>, ticket: Writing)
     ensures { λ _. ⌜ means (now (unit .exit)) ≡ onPut (tableOf (now (passed .entry))) ticket (means (now (unit .entry))) ⌝ }
@@ -134,7 +124,7 @@ pub(crate) fn take_put(unit: &mut ControlUnit, passed: &Passed<'_>, ticket: Writ
         set: 0,
         mark: false,
     };
-    set_row(&mut unit.own, v, row);
+    set_in(&mut unit.own, v, Some(row));
     grow_own(unit, passed);
 }
 

@@ -1,11 +1,11 @@
 // What a unit shows of its state.
 ghost use mathlib.Core.Path.{_≡_};
-ghost use Rattle.rows.specs.Rows.{rowIn, cell};
 ghost use Rattle.table.specs.Means.{means as tableOf};
 ghost use Rattle.unit.specs.States.{means, ownAt, heardAt, below};
 ghost use Rattle.unit.specs.Reported.{shownChoice};
 use crate::announcement::Announcement;
-use crate::hearing::cell_of;
+use crate::cells::cell_of;
+use crate::cells::row_in;
 use crate::reported::choice_of;
 use crate::reported::fully;
 use crate::state::ControlUnit;
@@ -13,14 +13,6 @@ use choice::Choice;
 use rows::Row;
 use table::Passed;
 use ticket::Writing;
-
-// The row of a view; none for a view that is not there.
-pub(crate) fn row_at(rows: &[Option<Row>; 8], v: u32) -> Option<Row>
-    ensures { λ r. ⌜ r ≡ rowIn (now (rows .entry)) v ⌝ }
-{
-    let v = v as usize;
-    if v < 8 { rows[v] } else { None }
-}
 
 impl ControlUnit {
     // The view that the unit is in.
@@ -35,7 +27,7 @@ impl ControlUnit {
     pub fn own_row(&self, v: u32) -> Option<Row>
         ensures { λ r. ⌜ r ≡ ownAt (means (now (self .entry))) v ⌝ }
     {
-        row_at(&self.own, v)
+        row_in(&self.own, v)
     }
 
     // The put of this view.

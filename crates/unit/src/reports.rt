@@ -8,8 +8,9 @@ ghost use Rattle.rows.specs.Rows.{cell};
 ghost use Rattle.unit.specs.States.{means};
 ghost use Rattle.unit.specs.Reported.{filed, reportOf, withUnit};
 ghost use Rattle.unit.specs.Rules.{reportFault, onReport};
+use crate::cells::cell_of;
+use crate::cells::set_in;
 use crate::fault::UnitFault;
-use crate::hearing::cell_of;
 use crate::state::ControlUnit;
 use rows::Row;
 use ticket::Writing;
@@ -45,22 +46,12 @@ fn same_report(grid: &[[Option<Row>; 16]; 8], x: u32, rows: &[Option<Row>; 8]) -
     true
 }
 
-// What a sender says is stored; nothing for a number that no unit has.
-fn file_row(rows: &mut [Option<Row>; 16], x: u32, said: Option<Row>)
-    ensures { λ _. ⌜ now (rows .exit) ≡ set (now (rows .entry)) x said ⌝ }
-{
-    let x = x as usize;
-    if x < 16 {
-        rows[x] = said;
-    }
-}
-
 // The rows of a report are stored under its sender.
 fn file_report(grid: &mut [[Option<Row>; 16]; 8], x: u32, rows: &[Option<Row>; 8])
     ensures { λ _. ⌜ now (grid .exit) ≡ filed x (now (rows .entry)) (now (grid .entry)) ⌝ }
 {
     for v in 0..8 {
-        file_row(&mut grid[v], x, rows[v]);
+        set_in(&mut grid[v], x, rows[v]);
     }
 }
 

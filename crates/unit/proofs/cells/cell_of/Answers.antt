@@ -5,7 +5,7 @@ use Rattle.std.proofs.shelf.Lists.{getD-past}
 use Rattle.std.specs.declared.option.Option.{Option}
 use Rattle.rows.specs.declared.row.Row.{Row}
 use Rattle.rows.specs.Rows.{rowIn}
-use Rattle.unit.proofs.hearing.cell_of.Needs as need
+use Rattle.unit.proofs.cells.cell_of.Needs as need
 
 pub returns-else-v-lt8 : need.returns-else-v-lt8
 returns-else-v-lt8 c =

@@ -1,7 +1,0 @@
-use mathlib.Core.Path.{sym}
-use native.Mathlib.Omega.{arith}
-use Rattle.std.proofs.shelf.Lists.{set-past}
-use Rattle.unit.proofs.putting.set_row.Needs as need
-
-pub returns-else-v-lt8 : need.returns-else-v-lt8
-returns-else-v-lt8 c = sym (set-past (c .args .rows .now) (c .args .v) _ (let e = c .told-rows in omega arith))
