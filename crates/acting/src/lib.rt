@@ -1,4 +1,6 @@
 // One unit of several acts, and what it sends goes out.
+#![tactic(auto)]
+
 mod acting;
 mod reading;
 mod units;

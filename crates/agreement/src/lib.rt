@@ -1,4 +1,6 @@
 // Agreement over every run of the rules, for every transport; the theorems are the contracts.
+#![tactic(auto)]
+
 ghost use Rattle.agreement.specs.Agreed.{RunsAgree, RunsKeepTheInvariant};
 
 // Every accepted act keeps the invariant.

@@ -1,4 +1,6 @@
 // Worked runs of four units, as theorems: what the agreement theorem speaks of does happen.
+#![tactic(auto)]
+
 ghost use Rattle.agreement_samples.specs.Samples.{ThreeRules, FalseReporterTears};
 
 // In one run three units announce one ticket, each by another rule.

@@ -1,4 +1,6 @@
 // What every part of the library shares: the limits, and what a fault says.
+#![tactic(auto)]
+
 mod fault;
 mod limits;
 

@@ -1,4 +1,6 @@
 // A wire with a box of its own for each unit.
+#![tactic(auto)]
+
 mod boxes;
 mod cells;
 mod spread;

@@ -1,4 +1,6 @@
 // A wire whose places are shared by all units.
+#![tactic(auto)]
+
 mod bus;
 mod cells;
 mod entry;

@@ -1,4 +1,6 @@
 // What the calls of a shed share: worlds, what each call did, faults, and the questions.
+#![tactic(auto)]
+
 mod asks;
 mod fault;
 mod making;

@@ -1,4 +1,6 @@
 // What the reports of a quorum let a unit put in a new view.
+#![tactic(auto)]
+
 mod choice;
 mod choosing;
 mod laws;

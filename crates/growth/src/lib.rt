@@ -1,4 +1,6 @@
 // How a row grows by what was heard in its view, and what may be announced.
+#![tactic(auto)]
+
 mod growing;
 mod laws;
 

@@ -1,4 +1,6 @@
 // Runs of a shed's calls, and the agreement that holds after any of them.
+#![tactic(auto)]
+
 ghost use Rattle.calls.specs.Calls.{ways};
 ghost use Rattle.history.specs.Promised.{CallsAgree};
 

@@ -1,4 +1,6 @@
 // The life of one unit, whatever arrives: laws over the rules of crate unit.
+#![tactic(auto)]
+
 ghost use Rattle.life.specs.Laws.{OtherRowsStay, LettersKeepTheView, LivesAreFounded, RowsOnlyGrow};
 
 // A row in a view that was left never changes: no act touches another view's row, and only raising moves the view.

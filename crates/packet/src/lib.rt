@@ -1,4 +1,6 @@
 // Packets: what units say to each other, in bytes.
+#![tactic(auto)]
+
 mod fault;
 mod message;
 mod questions;

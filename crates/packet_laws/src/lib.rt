@@ -1,4 +1,6 @@
 // The laws of reading and writing packets, each on a function's contract.
+#![tactic(auto)]
+
 ghost use Rattle.std.specs.Prelude.{◌≡◌, Some, None, MatchResult, ◌≢◌};
 ghost use Rattle.base.specs.Limits.{views};
 ghost use Rattle.packet.specs.Questions.{packet_fault};

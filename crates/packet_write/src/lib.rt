@@ -1,4 +1,6 @@
 // Writing packets, and the laws of reading and writing.
+#![tactic(auto)]
+
 mod putting;
 mod sizes;
 mod writing;

@@ -1,4 +1,6 @@
 // Rows: what a unit says of one view, what is asked of a row, and which units said such a row.
+#![tactic(auto)]
+
 mod asked;
 mod row;
 mod rule;

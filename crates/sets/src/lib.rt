@@ -1,4 +1,6 @@
 // Sets of units as 16-bit masks: bit i stands for unit i.
+#![tactic(auto)]
+
 ghost use Rattle.std.specs.Prelude.{◌≡◌, ℕ, ◌<◌, ◌⊎◌, Decides};
 ghost use Rattle.sets.specs.Sets.{Has, Is, Inside, Below, Bearable, Basic, Large};
 ghost use Rattle.sets.specs.Covers.{CoveredWith};

@@ -1,4 +1,6 @@
 // The shed: every call is total, and says what it did.
+#![tactic(auto)]
+
 mod calling;
 mod lending;
 mod making;

@@ -1,4 +1,6 @@
 // Quorum tables: fault sets, quorums of three classes, and the check that a table must pass.
+#![tactic(auto)]
+
 mod check;
 mod fault;
 mod laws;

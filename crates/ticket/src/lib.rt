@@ -1,4 +1,6 @@
 // Tickets: what a kind of ticket means, plans and piece orders, and their writings.
+#![tactic(auto)]
+
 mod bounds;
 mod bytes;
 mod fault;

@@ -1,4 +1,6 @@
 // One control unit: its state, its rules, and what it sends.
+#![tactic(auto)]
+
 mod actions;
 mod announcement;
 mod cells;

@@ -1,4 +1,6 @@
 // Worked cases of a unit: every refusal with its number and place, expected values worked out by hand.
+#![tactic(auto)]
+
 #[cfg(test)]
 mod tests {
     use base::Fault;

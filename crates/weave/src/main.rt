@@ -1,4 +1,6 @@
 // The program: one order of the mill, from its table on. Each part prints what it did and what came of it.
+#![tactic(auto)]
+
 mod tables;
 mod tickets;
 mod units;

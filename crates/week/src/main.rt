@@ -1,4 +1,6 @@
 // The program: one order of the mill, from its table to the announced ticket. Each part prints what it did and what came of it.
+#![tactic(auto)]
+
 mod days;
 mod refusals;
 mod said;

@@ -1,4 +1,6 @@
 // What a wire is, and what is written once for every wire.
+#![tactic(auto)]
+
 mod answers;
 mod fault;
 mod laws;

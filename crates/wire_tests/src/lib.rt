@@ -1,4 +1,6 @@
 // Worked cases of both wires.
+#![tactic(auto)]
+
 #[cfg(test)]
 mod tests {
     use base::{Fault, PACKET_BYTES, UNITS};

@@ -3,12 +3,12 @@ use Rattle.std.proofs.lemmas.Bool.Decides.{not_from_Decides}
 use Rattle.sets.proofs.Sides.{decides_yes, decides_no}
 use Rattle.sets.proofs.large.Goals as goal
 
-pub returns-then-covered-with : goal.returns-then-covered-with
-returns-then-covered-with c =
-    decides_no (λ l. let k = c.covered-with.ensures.0 c.if-covered-with.true in l c.loop-g.g-index k.0 (omega arith) k.1 k.2)
+pub returns-then-covered_with : goal.returns-then-covered_with
+returns-then-covered_with c =
+    decides_no (λ l. let k = c.covered_with.ensures.0 c.if-covered_with.true in l c.loop-g.g-index k.0 (omega arith) k.1 k.2)
 
 pub loop-g-preserved : goal.loop-g-preserved
-loop-g-preserved c = below_more _ _ c.loop-g.invariant (not_from_Decides _ c.covered-with.ensures c.if-covered-with.false)
+loop-g-preserved c = below_more _ _ c.loop-g.invariant (not_from_Decides _ c.covered_with.ensures c.if-covered_with.false)
 
 pub returns : goal.returns
 returns c = decides_yes (λ g h lg lh k. c.loop-g.invariant g (omega arith) (h, lh, k))

@@ -10,9 +10,9 @@ pub returns-in-Ok : goal.returns-in-Ok
 returns-in-Ok g c =
     let d = c.in-Ok.ensures in
     let us = c.args.units.now in
-    let n = c.unit-count.ensures.is in (
+    let n = c.unit_count.ensures.is in (
       ap by_unit d.0,
       d.1,
-      gone_out (table_of c.args.passed.now) c.args.unit (putting c.args.ticket) (states_of us) (states_of c.put-at.new.units) (among us _ _ _ c.args.unit c.requires refl) d.1 c.in-Ok.sends d.2
-          g.W.Wire.rule c.unit-count.result (g.W.Wire.means c.args.wire.now) (g.W.Wire.means c.go-out.new.wire) c.go-out.result.laid c.go-out.result.lost n c.go-out.ensures,
+      gone_out (table_of c.args.passed.now) c.args.unit (putting c.args.ticket) (states_of us) (states_of c.put_at.new.units) (among us _ _ _ c.args.unit c.requires refl) d.1 c.in-Ok.sends d.2
+          g.W.Wire.rule c.unit_count.result (g.W.Wire.means c.args.wire.now) (g.W.Wire.means c.go_out.new.wire) c.go_out.result.laid c.go_out.result.lost n c.go_out.ensures,
     )

@@ -7,5 +7,5 @@ pub returns : goal.returns
 returns g c =
     let h = c.in-Ok.ensures in
     let seen = h.1 in
-    waited g.T.Ticket.refuses (table_of c.args.passed.now) (g.W.Wire.means c.args.wire.now) c.args.unit c.args.place (states_of c.args.units.now) (states_of c.receive-bytes.new.units)
-    c.look.new.into _ c.in-Ok.found.length c.in-Ok.found.sender c.receive-bytes.result h.0 seen.size seen.bytes seen.sender c.receive-bytes.ensures
+    waited g.T.Ticket.refuses (table_of c.args.passed.now) (g.W.Wire.means c.args.wire.now) c.args.unit c.args.place (states_of c.args.units.now) (states_of c.receive_bytes.new.units)
+    c.look.new.into _ c.in-Ok.found.length c.in-Ok.found.sender c.receive_bytes.result h.0 seen.size seen.bytes seen.sender c.receive_bytes.ensures

@@ -9,5 +9,5 @@ use Rattle.acting.proofs.units.receive_report.Goals as goal
 
 pub returns : goal.returns
 returns c =
-    acted_as (table_of c.args.passed.now) c.args.unit c.args.sender _ (reported c.args.report) (states_of c.args.units.now) (states_of c.receive-letter.new.units) c.receive-letter.result
-    (ap₂ says_report c.view.ensures c.copy-to.ensures) c.receive-letter.ensures
+    acted_as (table_of c.args.passed.now) c.args.unit c.args.sender _ (reported c.args.report) (states_of c.args.units.now) (states_of c.receive_letter.new.units) c.receive_letter.result
+    (ap₂ says_report c.view.ensures c.copy_to.ensures) c.receive_letter.ensures

@@ -9,10 +9,10 @@ use Rattle.choice.proofs.choosing.choose.Goals as goal
 pub returns : goal.returns
 returns c =
     let grid = c.args.grid.now in
-    let e = c.choose-in.ensures ∙ ap (λ (tb : QuorumTable). choice_of tb c.args.q grid c.if-w-lt8.views) c.table.ensures in
+    let e = c.choose_in.ensures ∙ ap (λ (tb : QuorumTable). choice_of tb c.args.q grid c.if-w-lt8.views) c.table.ensures in
     elim c.if-w-lt8.branch [
       | then-w-lt8 w ↦ e ∙ ap (λ (n : ℕ). choice_of (means c.args.passed.now) c.args.q grid n) w.views-is
       | else-w-lt8 w ↦
-          clipped (means c.args.passed.now) c.args.q grid 8 c.args.w c.told-grid w.if-w-lt8.false c.choose-in.result
+          clipped (means c.args.passed.now) c.args.q grid 8 c.args.w c.told-grid w.if-w-lt8.false c.choose_in.result
           (e ∙ ap (λ (n : ℕ). choice_of (means c.args.passed.now) c.args.q grid n) w.views-is)
     ]

@@ -21,7 +21,7 @@ returns-in-None c =
 
 pub returns-in-Some : goal.returns-in-Some
 returns-in-Some c =
-    adds (listed c.args.table) c.args.q c.args.grid.now c.args.w c.args.v c.args.x c.in-Some.row c.args.choice c.with-ticket.result
+    adds (listed c.args.table) c.args.q c.args.grid.now c.args.w c.args.v c.args.x c.in-Some.row c.args.choice c.with_ticket.result
     (sym c.in-Some.is)
     (subst (λ (z : ℕ). Has z c.args.x) c.requires.1 (c.has.ensures.0 c.if-not-has.false))
-    c.with-ticket.ensures c.requires.5
+    c.with_ticket.ensures c.requires.5

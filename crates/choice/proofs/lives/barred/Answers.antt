@@ -13,7 +13,7 @@ returns-then-basic c =
     let tb = listed c.args.table in
     decides_yes (inl ((part_tells tb.faults _ (quorum_at tb c.args.q).set _ c.shared.result
     (λ (x : ℕ). Holds (cell c.args.grid.now c.args.v x) (AgainstFilled c.args.ticket))
-    c.units-of-units.ensures c.reporters-rivals.ensures c.shared.ensures c.basic.result c.basic.ensures).0 c.if-basic.true))
+    c.units_of-units.ensures c.reporters-rivals.ensures c.shared.ensures c.basic.result c.basic.ensures).0 c.if-basic.true))
 
 pub returns : goal.returns
 returns c =
@@ -21,7 +21,7 @@ returns c =
     let b = (quorum_at tb c.args.q).set in
     let d = part_tells tb.faults _ b _ c.shared.result
     (λ (x : ℕ). Holds (cell c.args.grid.now c.args.v x) (AgainstFilled c.args.ticket))
-    c.units-of-units.ensures c.reporters-rivals.ensures c.shared.ensures c.basic.result c.basic.ensures in
+    c.units_of-units.ensures c.reporters-rivals.ensures c.shared.ensures c.basic.result c.basic.ensures in
     let f = part_tells tb.faults _ b _ c.shared-2.result (Later c.args.grid.now c.args.w c.args.v c.args.ticket)
-    c.units-of-units.ensures c.later-moved.ensures c.shared-2.ensures c.basic-2.result c.basic-2.ensures in
+    c.units_of-units.ensures c.later-moved.ensures c.shared-2.ensures c.basic-2.result c.basic-2.ensures in
     (λ e. inr (f.0 e), λ k. elim k [ inl r ↦ absurd (not_from_Decides c.basic.result d c.if-basic.false r) | inr l ↦ f.1 l ])

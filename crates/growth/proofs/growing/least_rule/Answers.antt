@@ -5,4 +5,4 @@ use Rattle.growth.specs.Growth.{least_rule}
 use Rattle.growth.proofs.growing.least_rule.Goals as goal
 
 pub returns : goal.returns
-returns c = c.least-rule-in.ensures ∙ ap (λ (tb : QuorumTable). least_rule tb (row_in c.args.heard.now) c.args.ticket) c.table.ensures
+returns c = c.least_rule_in.ensures ∙ ap (λ (tb : QuorumTable). least_rule tb (row_in c.args.heard.now) c.args.ticket) c.table.ensures

@@ -4,4 +4,4 @@ use Rattle.packet.proofs.reading.read.Goals as goal
 
 pub returns : goal.returns
 unfolding packet_fault said_by
-returns g c = c.read-open.ensures
+returns g c = c.read_open.ensures

@@ -3,16 +3,16 @@ use Rattle.packet.specs.Questions.{asks}
 use Rattle.packet.proofs.Walks.{next_low, walk_goes, walk_stops, fault_walk, fault_end}
 use Rattle.packet.proofs.rows.entries_fault.Goals as goal
 
-pub entry-fault-fault-requires : goal.entry-fault-fault-requires
-entry-fault-fault-requires g c = omega arith
+pub entry_fault-fault-requires : goal.entry_fault-fault-requires
+entry_fault-fault-requires g c = omega arith
 
-pub next-entry-at-requires : goal.next-entry-at-requires
-next-entry-at-requires g c = omega arith
+pub next_entry-at-requires : goal.next_entry-at-requires
+next_entry-at-requires g c = omega arith
 
-pub returns-then-is-some : goal.returns-then-is-some
-returns-then-is-some g c =
+pub returns-then-is_some : goal.returns-then-is_some
+returns-then-is_some g c =
     walk_stops _ _ _ (fault_walk c.args.bytes.now (asks g.T.Ticket.refuses c.args.quorums c.args.question c.args.bytes.now)) c.args.count c.loop-k.-k c.loop-k.at _ _
-    c.loop-k-test.true c.entry-fault-fault.ensures (sym c.if-is-some.ensures) c.loop-k.invariant.1
+    c.loop-k-test.true c.entry_fault-fault.ensures (sym c.if-is_some.ensures) c.loop-k.invariant.1
 
 pub returns : goal.returns
 returns g c =
@@ -20,7 +20,7 @@ returns g c =
 
 pub loop-k-preserved : goal.loop-k-preserved
 loop-k-preserved g c = (
-  omega (arith, next_low c.args.bytes.now c.loop-k.at, c.next-entry-at.ensures),
+  omega (arith, next_low c.args.bytes.now c.loop-k.at, c.next_entry-at.ensures),
   walk_goes _ _ _ (fault_walk c.args.bytes.now (asks g.T.Ticket.refuses c.args.quorums c.args.question c.args.bytes.now)) c.args.count c.loop-k.-k c.loop-k.at _ _ _
-      c.loop-k-test.true c.entry-fault-fault.ensures (sym c.if-is-some.ensures) c.next-entry-at.ensures c.loop-k.invariant.1,
+      c.loop-k-test.true c.entry_fault-fault.ensures (sym c.if-is_some.ensures) c.next_entry-at.ensures c.loop-k.invariant.1,
 )

@@ -5,5 +5,5 @@ use Rattle.packet.proofs.rows.names_listed.Goals as goal
 
 pub returns : goal.returns
 returns c =
-    let test = ap (λ n. eqb n 0) c.from-bit.ensures in
+    let test = ap (λ n. eqb n 0) c.from_bit.ensures in
     record { test = test; bits = Decides-at _ _ test (listed_bits c.args.quorums c.args.set (search rules)) }

@@ -9,8 +9,8 @@ loop-k-init c =
     let none = entries_none c.args.rows.now in
     (ap (λ (l : List ℕ). 12 + length l) (sym none), sym (ap (over c.args.out.now 12) none ∙ over_none c.args.out.now 12))
 
-pub put-entry-at-requires : goal.put-entry-at-requires
-put-entry-at-requires c =
+pub put_entry-at-requires : goal.put_entry-at-requires
+put_entry-at-requires c =
     let more = size_more c.args.rows.now c.loop-k.k c.loop-k-test.true in
     let front = size_front c.args.rows.now (c.loop-k.k + 1) in
     let room : 12 + length (entries_bytes c.args.rows.now) ≤ length c.args.out.now = c.requires in
@@ -20,8 +20,8 @@ pub loop-k-preserved : goal.loop-k-preserved
 loop-k-preserved c =
     let more = size_more c.args.rows.now c.loop-k.k c.loop-k-test.true in
     let room : 12 + length (entries_bytes c.args.rows.now) ≤ length c.args.out.now = c.requires in (
-      omega (arith, c.put-entry-at.ensures.end),
-      over_two c.args.out.now _ _ _ _ 12 _ (omega arith) c.loop-k.invariant.1 c.put-entry-at.ensures.bytes c.loop-k.invariant.0
+      omega (arith, c.put_entry-at.ensures.end),
+      over_two c.args.out.now _ _ _ _ 12 _ (omega arith) c.loop-k.invariant.1 c.put_entry-at.ensures.bytes c.loop-k.invariant.0
           ∙ ap (over c.args.out.now 12) (sym (entries_more c.args.rows.now c.loop-k.k c.loop-k-test.true)),
     )
 

@@ -11,5 +11,5 @@ returns-in-Some c =
     let room : c.args.at + length (entry_bytes c.args.entry) ≤ length c.args.out.now = c.requires in
     record {
       end = ap (λ (l : List ℕ). c.args.at + length l) (sym e);
-      bytes = over_two c.args.out.now _ _ (be 1) (row_bytes c.in-Some.row) c.args.at _ (omega arith) c.put-word-in-Some.ensures c.put-row.ensures refl ∙ ap (over c.args.out.now c.args.at) (sym e);
+      bytes = over_two c.args.out.now _ _ (be 1) (row_bytes c.in-Some.row) c.args.at _ (omega arith) c.put_word-in-Some.ensures c.put_row.ensures refl ∙ ap (over c.args.out.now c.args.at) (sym e);
     }

@@ -8,4 +8,4 @@ use Rattle.packet_write.proofs.putting.put_row.Goals as goal
 pub returns : goal.returns
 returns c =
     over_three c.args.out.now _ _ _ (bytes_of c.args.row.ticket) (be c.args.row.set) (be (mark_word c.args.row.mark)) c.args.at _ _ (omega arith)
-    (c.put-bytes.ensures ∙ ap (λ (l : List ℕ). over c.args.out.now c.args.at l) c.bytes-of-ticket.ensures.is) c.put-word.ensures (c.put-word-2.ensures ∙ ap (λ m. over c.put-word.new.out (c.args.at + 20) (be m)) c.mark-word-mark.ensures) refl refl
+    (c.put_bytes.ensures ∙ ap (λ (l : List ℕ). over c.args.out.now c.args.at l) c.bytes_of-ticket.ensures.is) c.put_word.ensures (c.put_word-2.ensures ∙ ap (λ m. over c.put_word.new.out (c.args.at + 20) (be m)) c.mark_word-mark.ensures) refl refl

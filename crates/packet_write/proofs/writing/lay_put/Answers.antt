@@ -9,6 +9,6 @@ pub returns : goal.returns
 returns c = (
   omega arith,
   refl,
-  over_two c.args.out.now _ _ (head_bytes put_kind c.args.view) (bytes_of c.args.ticket) 0 8 (omega arith) c.put-head.ensures
-      (c.put-bytes.ensures ∙ ap (over c.put-head.new.out 8) c.bytes-of-bytes.ensures.is) refl ∙ over_front c.args.out.now _,
+  over_two c.args.out.now _ _ (head_bytes put_kind c.args.view) (bytes_of c.args.ticket) 0 8 (omega arith) c.put_head.ensures
+      (c.put_bytes.ensures ∙ ap (over c.put_head.new.out 8) c.bytes_of-bytes.ensures.is) refl ∙ over_front c.args.out.now _,
 )

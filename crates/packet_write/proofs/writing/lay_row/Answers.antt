@@ -8,5 +8,5 @@ pub returns : goal.returns
 returns c = (
   omega arith,
   refl,
-  over_two c.args.out.now _ _ (head_bytes row_kind c.args.view) (row_bytes c.args.row) 0 8 (omega arith) c.put-head.ensures c.put-row.ensures refl ∙ over_front c.args.out.now _,
+  over_two c.args.out.now _ _ (head_bytes row_kind c.args.view) (row_bytes c.args.row) 0 8 (omega arith) c.put_head.ensures c.put_row.ensures refl ∙ over_front c.args.out.now _,
 )

@@ -3,4 +3,4 @@ use Rattle.packet_write.proofs.writing.write_put.Goals as goal
 
 pub returns : goal.returns
 unfolding writing
-returns c = c.lay-put.ensures
+returns c = c.lay_put.ensures

@@ -3,4 +3,4 @@ use Rattle.packet_write.proofs.writing.write_report.Goals as goal
 
 pub returns : goal.returns
 unfolding writing
-returns c = c.lay-report.ensures
+returns c = c.lay_report.ensures

@@ -3,4 +3,4 @@ use Rattle.packet_write.proofs.writing.write_row.Goals as goal
 
 pub returns : goal.returns
 unfolding writing
-returns c = c.lay-row.ensures
+returns c = c.lay_row.ensures

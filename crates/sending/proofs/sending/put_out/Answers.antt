@@ -8,4 +8,4 @@ returns-then-not-wanted g c = went_none g.W.Wire.rule c.args.n c.args.me _ (g.W.
 
 pub returns-in-None : goal.returns-in-None
 returns-in-None g c =
-    went_none g.W.Wire.rule c.args.n c.args.me _ (g.W.Wire.means c.args.wire.now) (absent c.args.wanted _ (ap (put_said c.args.unit.now.view) (sym c.put-ticket.ensures ∙ c.in-None.is)))
+    went_none g.W.Wire.rule c.args.n c.args.me _ (g.W.Wire.means c.args.wire.now) (absent c.args.wanted _ (ap (put_said c.args.unit.now.view) (sym c.put_ticket.ensures ∙ c.in-None.is)))

@@ -8,8 +8,8 @@ use Rattle.sending.proofs.sending.report_out.Goals as goal
 pub returns-then-not-wanted : goal.returns-then-not-wanted
 returns-then-not-wanted g c = went_none g.W.Wire.rule c.args.n c.args.me _ (g.W.Wire.means c.args.wire.now) (unwanted c.args.wanted _ c.if-not-wanted.true)
 
-pub send-report-requires : goal.send-report-requires
-send-report-requires g c =
+pub send_report-requires : goal.send_report-requires
+send_report-requires g c =
     let s = means c.args.unit.now in
     let v = c.view.ensures in
     let r = c.report-rows.ensures in

@@ -9,4 +9,4 @@ returns-then-not-wanted g c = went_none g.W.Wire.rule c.args.n c.args.me _ (g.W.
 
 pub returns-in-None : goal.returns-in-None
 returns-in-None g c =
-    went_none g.W.Wire.rule c.args.n c.args.me _ (g.W.Wire.means c.args.wire.now) (absent c.args.wanted _ (ap (row_said c.args.unit.now.view) (ap (own_at (means c.args.unit.now)) (sym c.view.ensures) ∙ sym c.own-row.ensures ∙ c.in-None.is)))
+    went_none g.W.Wire.rule c.args.n c.args.me _ (g.W.Wire.means c.args.wire.now) (absent c.args.wanted _ (ap (row_said c.args.unit.now.view) (ap (own_at (means c.args.unit.now)) (sym c.view.ensures) ∙ sym c.own_row.ensures ∙ c.in-None.is)))

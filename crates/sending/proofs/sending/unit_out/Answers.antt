@@ -6,4 +6,4 @@ returns g c =
     let rule = g.W.Wire.rule in
     let n = c.args.n in
     let me = c.args.me in
-    goes_on rule n me _ _ _ _ _ _ _ _ _ c.put-out-put.ensures.out (goes_on rule n me _ _ _ _ _ _ _ _ _ c.row-out-row.ensures.out c.report-out-report.ensures.out)
+    goes_on rule n me _ _ _ _ _ _ _ _ _ c.put_out-put.ensures.out (goes_on rule n me _ _ _ _ _ _ _ _ _ c.row_out-row.ensures.out c.report_out-report.ensures.out)

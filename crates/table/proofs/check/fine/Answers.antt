@@ -19,7 +19,7 @@ pub returns-in-QuorumCount : goal.returns-in-QuorumCount
 returns-in-QuorumCount c = of asked.QuorumCount (listed c.args.table) c.args.i c.between-in-QuorumCount.result c.in-QuorumCount.is c.between-in-QuorumCount.ensures
 
 pub returns-in-Entry : goal.returns-in-Entry
-returns-in-Entry c = of asked.Entry (listed c.args.table) c.args.i c.fine-entry.result c.in-Entry.is c.fine-entry.ensures
+returns-in-Entry c = of asked.Entry (listed c.args.table) c.args.i c.fine_entry.result c.in-Entry.is c.fine_entry.ensures
 
 pub returns-in-Pairs : goal.returns-in-Pairs
-returns-in-Pairs c = of (asked.Pairs c.in-Pairs.pair) (listed c.args.table) c.args.i c.fine-pairs.result c.in-Pairs.is c.fine-pairs.ensures
+returns-in-Pairs c = of (asked.Pairs c.in-Pairs.pair) (listed c.args.table) c.args.i c.fine_pairs.result c.in-Pairs.is c.fine_pairs.ensures

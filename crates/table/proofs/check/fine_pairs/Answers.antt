@@ -5,15 +5,15 @@ use Rattle.table.specs.Questions.{FinePair}
 use Rattle.table.specs.Means.{listed}
 use Rattle.table.proofs.check.fine_pairs.Goals as goal
 
-pub returns-then-not-fine-pair : goal.returns-then-not-fine-pair
-returns-then-not-fine-pair c =
+pub returns-then-not-fine_pair : goal.returns-then-not-fine_pair
+returns-then-not-fine_pair c =
     one_falls (λ (k : ℕ). FinePair c.args.pair (listed c.args.table) c.args.p k) _ c.loop-q.q (omega arith)
-    (not_from_Decides c.fine-pair.result c.fine-pair.ensures c.if-not-fine-pair.true)
+    (not_from_Decides c.fine_pair.result c.fine_pair.ensures c.if-not-fine_pair.true)
 
 pub loop-q-preserved : goal.loop-q-preserved
 loop-q-preserved c =
     below_more (λ (k : ℕ). FinePair c.args.pair (listed c.args.table) c.args.p k) _ c.loop-q.invariant
-    (c.fine-pair.ensures.0 c.if-not-fine-pair.false)
+    (c.fine_pair.ensures.0 c.if-not-fine_pair.false)
 
 pub returns : goal.returns
 returns c =

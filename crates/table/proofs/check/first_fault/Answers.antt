@@ -13,7 +13,7 @@ returns-in-Some c =
     let u = subst (λ (q : Question). FirstUnfit q tb c.in-Some.place) e c.in-Some.ensures in
     let f = found_from tb c.loop-number.number c.in-Some.place (omega arith) (omega arith) u (λ k a b. c.loop-number.invariant k b a) in
     let g = subst (λ (q : Question). Found tb (fault_of q c.in-Some.place)) (sym e) f in
-    subst (λ (x : TableFault). Found tb x) (sym c.fault-at.ensures) g
+    subst (λ (x : TableFault). Found tb x) (sym c.fault_at.ensures) g
 
 pub returns : goal.returns
 returns c = proper_from _ (λ k lt le. c.loop-number.invariant k (omega arith) le)

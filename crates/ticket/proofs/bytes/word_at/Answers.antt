@@ -9,5 +9,5 @@ returns-then-at-bytes c = sym (word_past c.args.bytes.now c.args.at (omega arith
 
 pub returns : goal.returns
 returns c =
-    c.first-word.ensures ∙ ap (λ (l : List ℕ). word l 0) (take_rest c.args.bytes.now c.args.at)
+    c.first_word.ensures ∙ ap (λ (l : List ℕ). word l 0) (take_rest c.args.bytes.now c.args.at)
     ∙ word_drop c.args.bytes.now c.args.at 0 ∙ ap (λ i. word c.args.bytes.now i) (add-zero c.args.at)

@@ -8,5 +8,5 @@ use Rattle.unit.proofs.hearing.test_announcement.Goals as goal
 
 pub returns-in-None : goal.returns-in-None
 returns-in-None c =
-    announced_now (table_of c.args.passed.now) c.args.v c.args.ticket (means c.args.unit.now) c.rule-to-announcement-unit.result _ c.if-at-lt8.true c.in-None.is
-    (c.rule-to-announcement-unit.ensures ∙ ap (λ (o : Option Rule). ruled c.args.v c.args.ticket o) c.least-rule-met.ensures) refl
+    announced_now (table_of c.args.passed.now) c.args.v c.args.ticket (means c.args.unit.now) c.rule_to_announcement-unit.result _ c.if-at-lt8.true c.in-None.is
+    (c.rule_to_announcement-unit.ensures ∙ ap (λ (o : Option Rule). ruled c.args.v c.args.ticket o) c.least_rule-met.ensures) refl

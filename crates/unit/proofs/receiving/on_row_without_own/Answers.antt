@@ -10,7 +10,7 @@ pub returns-in-None : goal.returns-in-None
 returns-in-None c =
     let tb = table_of c.args.passed.now in
     let s = means c.args.unit.now in (
-      ap (λ (o : Option Row). ticket_fault c.args.x o c.args.row) (sym c.cell-of.ensures) ∙ sym c.in-None.ensures,
-      c.test-announcement.ensures ∙ ap (announce tb c.args.v c.args.row.ticket) c.hear-row.ensures ∙ row_noted tb c.args.x c.args.v c.args.row s c.requires,
+      ap (λ (o : Option Row). ticket_fault c.args.x o c.args.row) (sym c.cell_of.ensures) ∙ sym c.in-None.ensures,
+      c.test_announcement.ensures ∙ ap (announce tb c.args.v c.args.row.ticket) c.hear_row.ensures ∙ row_noted tb c.args.x c.args.v c.args.row s c.requires,
       row_silent tb c.args.x c.args.v c.args.row s c.requires,
     )

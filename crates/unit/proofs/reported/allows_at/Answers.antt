@@ -8,7 +8,7 @@ use Rattle.unit.proofs.reported.allows_at.Goals as goal
 pub returns-then-fully : goal.returns-then-fully
 returns-then-fully c =
     let d =
-    subst (λ (x : Choice Writing). Decides c.allows.result (Allows x c.args.ticket)) c.choice-of.ensures c.allows.ensures
+    subst (λ (x : Choice Writing). Decides c.allows.result (Allows x c.args.ticket)) c.choice_of.ensures c.allows.ensures
     in
     (λ e. (c.fully.ensures.0 c.if-fully.true, d.0 e), λ k. d.1 k.1)
 

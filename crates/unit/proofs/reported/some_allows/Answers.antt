@@ -6,15 +6,15 @@ use Rattle.unit.specs.States.{means}
 use Rattle.unit.specs.Reported.{FullyReported, Allows, choice_at}
 use Rattle.unit.proofs.reported.some_allows.Goals as goal
 
-pub returns-then-allows-at : goal.returns-then-allows-at
-returns-then-allows-at c = decides_yes (c.loop-q.q, omega arith, c.allows-at.ensures.0 c.if-allows-at.true)
+pub returns-then-allows_at : goal.returns-then-allows_at
+returns-then-allows_at c = decides_yes (c.loop-q.q, omega arith, c.allows_at.ensures.0 c.if-allows_at.true)
 
 pub loop-q-preserved : goal.loop-q-preserved
 loop-q-preserved c =
     let tb = table_of c.args.passed.now in
     let s = means c.args.unit.now in
     below_more (λ (k : ℕ). FullyReported tb s k × Allows (choice_at tb s k) c.args.ticket → ⊥) _ c.loop-q.invariant
-    (not_from_Decides c.allows-at.result c.allows-at.ensures c.if-allows-at.false)
+    (not_from_Decides c.allows_at.result c.allows_at.ensures c.if-allows_at.false)
 
 pub returns : goal.returns
 returns c = decides_no (λ k. c.loop-q.invariant k.0 (omega (arith, k.1)) k.2)

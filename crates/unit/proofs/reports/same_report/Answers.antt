@@ -7,10 +7,10 @@ use Rattle.unit.specs.Reported.{report_of}
 use Rattle.unit.proofs.Filing.{same_elements, length_report, report_at}
 use Rattle.unit.proofs.reports.same_report.Goals as goal
 
-pub returns-then-not-same-said : goal.returns-then-not-same-said
-returns-then-not-same-said c =
-    decides_no (λ e. not_from_Decides _ c.same-said.ensures c.if-not-same-said.true
-    (c.cell-of.ensures ∙ sym (report_at c.args.x c.args.grid.now c.loop-v.v) ∙ ap (λ (rows : List (Option Row)). row_in rows c.loop-v.v) e))
+pub returns-then-not-same_said : goal.returns-then-not-same_said
+returns-then-not-same_said c =
+    decides_no (λ e. not_from_Decides _ c.same_said.ensures c.if-not-same_said.true
+    (c.cell_of.ensures ∙ sym (report_at c.args.x c.args.grid.now c.loop-v.v) ∙ ap (λ (rows : List (Option Row)). row_in rows c.loop-v.v) e))
 
 pub returns : goal.returns
 returns c =

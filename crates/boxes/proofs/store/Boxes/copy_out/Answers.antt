@@ -16,4 +16,4 @@ returns c =
     let b = c.args.self.now in
     let room = fits _ _ _ _ _ c.requires.served (b.counted c.args.unit) b.memory in
     let is = slot_at _ _ b.places c.args.unit c.args.place c.index-slots-unit.result c.requires.waits room in
-    copied_out (means_of b) c.args.unit c.args.place c.index-slots-unit.result c.args.into.now c.copy-to.new.into c.copy-to.result (is ∙ ap parcel_of (sym c.index-slots-unit.is)) c.copy-to.ensures
+    copied_out (means_of b) c.args.unit c.args.place c.index-slots-unit.result c.args.into.now c.copy_to.new.into c.copy_to.result (is ∙ ap parcel_of (sym c.index-slots-unit.is)) c.copy_to.ensures

@@ -10,7 +10,7 @@ pub returns : goal.returns
 returns c =
     let a = means_of c.args.self.now in
     record {
-      exact = c.send-all.ensures;
-      laid = sent_made boxes_rule a _ c.args.from c.args.n c.args.packet.now c.send-all.result (λ tally. tally.laid ≡ with_room a c.args.n) c.send-all.ensures
+      exact = c.send_all.ensures;
+      laid = sent_made boxes_rule a _ c.args.from c.args.n c.args.packet.now c.send_all.result (λ tally. tally.laid ≡ with_room a c.args.n) c.send_all.ensures
           (λ tally did. laid_with_room c.args.from c.args.packet.now a c.args.n _ tally.laid tally.lost did.asked did.chain);
     }

@@ -10,4 +10,4 @@ returns c =
     let b = c.args.self.now in
     let room : b.used ≤ length b.slots.now = omega (arith, b.memory, b.within) in
     let is = slot_at b.slots.now b.used c.args.unit c.args.place c.args.at c.requires room c.index-slots-at.result in
-    copied_out (means_of b) c.args.unit c.args.place _ c.args.into.now c.copy-to.new.into c.copy-to.result is c.copy-to.ensures
+    copied_out (means_of b) c.args.unit c.args.place _ c.args.into.now c.copy_to.new.into c.copy_to.result is c.copy_to.ensures

@@ -10,7 +10,7 @@ pub returns : goal.returns
 returns c =
     let a = means_of c.args.self.now in
     record {
-      exact = c.send-all.ensures;
-      laid = sent_made bus_rule a _ c.args.from c.args.n c.args.packet.now c.send-all.result (λ tally. tally.laid ≡ min c.args.n (a.free 0)) c.send-all.ensures
+      exact = c.send_all.ensures;
+      laid = sent_made bus_rule a _ c.args.from c.args.n c.args.packet.now c.send_all.result (λ tally. tally.laid ≡ min c.args.n (a.free 0)) c.send_all.ensures
           (λ tally did. laid_while_free c.args.from c.args.packet.now a (λ u h. refl) c.args.n _ tally.laid tally.lost did.asked did.chain);
     }

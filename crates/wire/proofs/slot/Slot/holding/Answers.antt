@@ -6,5 +6,5 @@ use Rattle.wire.proofs.slot.Slot.holding.Goals as goal
 
 pub returns : goal.returns
 returns c =
-    let e = c.copy-from-slice.ensures.after in
-    (omega arith, ap (parcel c.args.sender) (take_at c.copy-from-slice.new.self _ _ (ap length e) ∙ e))
+    let e = c.copy_from_slice.ensures.after in
+    (omega arith, ap (parcel c.args.sender) (take_at c.copy_from_slice.new.self _ _ (ap length e) ∙ e))
