@@ -8,21 +8,21 @@ use crate::kind::Ticket;
 
 // The sixteen bytes of a ticket.
 pub fn write<T: Ticket>(ticket: &T) -> [u8; 16]
-    ensures { result ≡ bytes_of (written ticket.now) }
+    ensures { result ≡ bytes_of (T.written ticket.now) }
 {
     bytes_of(ticket.writing())
 }
 
 // The ticket of the writing that sixteen bytes are.
 fn read_writing<T: Ticket>(bytes: &[u8; 16]) -> Result<T, TicketFault>
-    ensures { MatchResult result (λ t. (refuses (writing_of bytes.now) ≡ None) × (written t ≡ writing_of bytes.now)) (λ e. refuses (writing_of bytes.now) ≡ Some e) }
+    ensures { MatchResult result (λ t. (T.refuses (writing_of bytes.now) ≡ None) × (T.written t ≡ writing_of bytes.now)) (λ e. T.refuses (writing_of bytes.now) ≡ Some e) }
 {
     T::of_writing(writing_of(bytes))
 }
 
 // The ticket that sixteen bytes are the writing of; refused exactly if no ticket of the kind is written so.
 pub fn read<T: Ticket>(bytes: &[u8; 16]) -> Result<T, TicketFault>
-    ensures { MatchResult result (λ t. (refuses (writing_of bytes.now) ≡ None) × (bytes_of (written t) ≡ bytes.now)) (λ e. (refuses (writing_of bytes.now) ≡ Some e) × ((t : T) → bytes_of (written t) ≢ bytes.now)) }
+    ensures { MatchResult result (λ t. (T.refuses (writing_of bytes.now) ≡ None) × (bytes_of (T.written t) ≡ bytes.now)) (λ e. (T.refuses (writing_of bytes.now) ≡ Some e) × ((t : T) → bytes_of (T.written t) ≢ bytes.now)) }
 {
     read_writing(bytes)
 }
