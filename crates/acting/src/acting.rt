@@ -27,8 +27,8 @@ fn ask<W: Wire>(
     unit: u32,
 ) -> Result<(), ShedFault>
     ensures { MatchResult result
-        (λ _. (asked (world (table_of passed.now) false_set (states_of units.now) (means wire.now)) unit ≡ None) × Ready (table_of passed.now).units (length units.now) (means wire.now).served unit)
-        (λ e. asked (world (table_of passed.now) false_set (states_of units.now) (means wire.now)) unit ≡ Some e) }
+        (λ _. (asked (world (table_of passed.now) false_set (states_of units.now) (W.means wire.now)) unit ≡ None) × Ready (table_of passed.now).units (length units.now) (W.means wire.now).served unit)
+        (λ e. asked (world (table_of passed.now) false_set (states_of units.now) (W.means wire.now)) unit ≡ Some e) }
 {
     let n = unit_count(passed);
     let memory = memory_of(units);
@@ -45,10 +45,10 @@ pub fn put<W: Wire>(
     unit: u32,
     ticket: Writing,
 ) -> Result<Tally, ShedFault>
-    ensures { ActedOut rule
-        (or_else (asked (world (table_of passed.now) false_set (states_of units.old) (means wire.old)) unit)
+    ensures { ActedOut W.rule
+        (or_else (asked (world (table_of passed.now) false_set (states_of units.old) (W.means wire.old)) unit)
         (by_unit (act_fault views (table_of passed.now) unit (putting ticket) (state_at (states_of units.old) unit))))
-        (table_of passed.now) unit (putting ticket) (states_of units.old) (states_of units.new) (means wire.old) (means wire.new) result }
+        (table_of passed.now) unit (putting ticket) (states_of units.old) (states_of units.new) (W.means wire.old) (W.means wire.new) result }
 {
     match ask(&*wire, &*units, passed, false_set, unit) {
         Ok(()) => put_ready(wire, units, passed, unit, ticket),
@@ -65,10 +65,10 @@ pub fn raise<W: Wire>(
     unit: u32,
     view: u32,
 ) -> Result<Tally, ShedFault>
-    ensures { ActedOut rule
-        (or_else (asked (world (table_of passed.now) false_set (states_of units.old) (means wire.old)) unit)
+    ensures { ActedOut W.rule
+        (or_else (asked (world (table_of passed.now) false_set (states_of units.old) (W.means wire.old)) unit)
         (by_unit (act_fault views (table_of passed.now) unit (raising view) (state_at (states_of units.old) unit))))
-        (table_of passed.now) unit (raising view) (states_of units.old) (states_of units.new) (means wire.old) (means wire.new) result }
+        (table_of passed.now) unit (raising view) (states_of units.old) (states_of units.new) (W.means wire.old) (W.means wire.new) result }
 {
     match ask(&*wire, &*units, passed, false_set, unit) {
         Ok(()) => raise_ready(wire, units, passed, unit, view),
@@ -84,10 +84,10 @@ pub fn repeat<W: Wire>(
     false_set: u16,
     unit: u32,
 ) -> Result<Tally, ShedFault>
-    ensures { ActedOut rule
-        (or_else (asked (world (table_of passed.now) false_set (states_of units.old) (means wire.old)) unit)
+    ensures { ActedOut W.rule
+        (or_else (asked (world (table_of passed.now) false_set (states_of units.old) (W.means wire.old)) unit)
         (in_view (state_at (states_of units.old) unit)))
-        (table_of passed.now) unit repeating (states_of units.old) (states_of units.new) (means wire.old) (means wire.new) result }
+        (table_of passed.now) unit repeating (states_of units.old) (states_of units.new) (W.means wire.old) (W.means wire.new) result }
 {
     match ask(&*wire, &*units, passed, false_set, unit) {
         Ok(()) => repeat_ready(wire, units, passed, unit),
@@ -104,11 +104,11 @@ pub fn deliver<T: Ticket, W: Wire>(
     unit: u32,
     place: u32,
 ) -> Result<Tally, ShedFault>
-    ensures { ActedOut rule
-        (or_else (asked (world (table_of passed.now) false_set (states_of units.old) (means wire.old)) unit)
-        (or_else (read_fault refuses (table_of passed.now) (means wire.old) unit place)
-        (by_unit (act_fault views (table_of passed.now) unit (receiving (waits_at (means wire.old) unit place).sender (handed (waits_at (means wire.old) unit place).bytes)) (state_at (states_of units.old) unit)))))
-        (table_of passed.now) unit (receiving (waits_at (means wire.old) unit place).sender (handed (waits_at (means wire.old) unit place).bytes)) (states_of units.old) (states_of units.new) (means wire.old) (means wire.new) result }
+    ensures { ActedOut W.rule
+        (or_else (asked (world (table_of passed.now) false_set (states_of units.old) (W.means wire.old)) unit)
+        (or_else (read_fault T.refuses (table_of passed.now) (W.means wire.old) unit place)
+        (by_unit (act_fault views (table_of passed.now) unit (receiving (waits_at (W.means wire.old) unit place).sender (handed (waits_at (W.means wire.old) unit place).bytes)) (state_at (states_of units.old) unit)))))
+        (table_of passed.now) unit (receiving (waits_at (W.means wire.old) unit place).sender (handed (waits_at (W.means wire.old) unit place).bytes)) (states_of units.old) (states_of units.new) (W.means wire.old) (W.means wire.new) result }
 {
     match ask(&*wire, &*units, passed, false_set, unit) {
         Ok(()) => deliver_ready::<T, W>(wire, units, passed, unit, place),
@@ -124,9 +124,9 @@ fn put_ready<W: Wire>(
     unit: u32,
     ticket: Writing,
 ) -> Result<Tally, ShedFault>
-    requires { Ready (table_of passed.now).units (length units.old) (means wire.old).served unit }
-    ensures { ActedOut rule (by_unit (act_fault views (table_of passed.now) unit (putting ticket) (state_at (states_of units.old) unit)))
-        (table_of passed.now) unit (putting ticket) (states_of units.old) (states_of units.new) (means wire.old) (means wire.new) result }
+    requires { Ready (table_of passed.now).units (length units.old) (W.means wire.old).served unit }
+    ensures { ActedOut W.rule (by_unit (act_fault views (table_of passed.now) unit (putting ticket) (state_at (states_of units.old) unit)))
+        (table_of passed.now) unit (putting ticket) (states_of units.old) (states_of units.new) (W.means wire.old) (W.means wire.new) result }
 {
     match put_at(units, passed, unit, ticket) {
         Ok(sends) => Ok(go_out(wire, unit_count(passed), unit, units, sends)),
@@ -142,9 +142,9 @@ fn raise_ready<W: Wire>(
     unit: u32,
     view: u32,
 ) -> Result<Tally, ShedFault>
-    requires { Ready (table_of passed.now).units (length units.old) (means wire.old).served unit }
-    ensures { ActedOut rule (by_unit (act_fault views (table_of passed.now) unit (raising view) (state_at (states_of units.old) unit)))
-        (table_of passed.now) unit (raising view) (states_of units.old) (states_of units.new) (means wire.old) (means wire.new) result }
+    requires { Ready (table_of passed.now).units (length units.old) (W.means wire.old).served unit }
+    ensures { ActedOut W.rule (by_unit (act_fault views (table_of passed.now) unit (raising view) (state_at (states_of units.old) unit)))
+        (table_of passed.now) unit (raising view) (states_of units.old) (states_of units.new) (W.means wire.old) (W.means wire.new) result }
 {
     match raise_at(units, unit, view) {
         Ok(sends) => Ok(go_out(wire, unit_count(passed), unit, units, sends)),
@@ -159,9 +159,9 @@ fn repeat_ready<W: Wire>(
     passed: &Passed<'_>,
     unit: u32,
 ) -> Result<Tally, ShedFault>
-    requires { Ready (table_of passed.now).units (length units.old) (means wire.old).served unit }
-    ensures { ActedOut rule (in_view (state_at (states_of units.old) unit))
-        (table_of passed.now) unit repeating (states_of units.old) (states_of units.new) (means wire.old) (means wire.new) result }
+    requires { Ready (table_of passed.now).units (length units.old) (W.means wire.old).served unit }
+    ensures { ActedOut W.rule (in_view (state_at (states_of units.old) unit))
+        (table_of passed.now) unit repeating (states_of units.old) (states_of units.new) (W.means wire.old) (W.means wire.new) result }
 {
     match repeat_at(units, unit) {
         Ok(sends) => Ok(go_out(wire, unit_count(passed), unit, units, sends)),
@@ -177,12 +177,12 @@ fn deliver_ready<T: Ticket, W: Wire>(
     unit: u32,
     place: u32,
 ) -> Result<Tally, ShedFault>
-    requires { Ready (table_of passed.now).units (length units.old) (means wire.old).served unit }
-    ensures { ActedOut rule
-        (or_else (read_fault refuses (table_of passed.now) (means wire.old) unit place)
-        (by_unit (act_fault views (table_of passed.now) unit (receiving (waits_at (means wire.old) unit place).sender (handed (waits_at (means wire.old) unit place).bytes)) (state_at (states_of units.old) unit))))
-        (table_of passed.now) unit (receiving (waits_at (means wire.old) unit place).sender (handed (waits_at (means wire.old) unit place).bytes))
-        (states_of units.old) (states_of units.new) (means wire.old) (means wire.new) result }
+    requires { Ready (table_of passed.now).units (length units.old) (W.means wire.old).served unit }
+    ensures { ActedOut W.rule
+        (or_else (read_fault T.refuses (table_of passed.now) (W.means wire.old) unit place)
+        (by_unit (act_fault views (table_of passed.now) unit (receiving (waits_at (W.means wire.old) unit place).sender (handed (waits_at (W.means wire.old) unit place).bytes)) (state_at (states_of units.old) unit))))
+        (table_of passed.now) unit (receiving (waits_at (W.means wire.old) unit place).sender (handed (waits_at (W.means wire.old) unit place).bytes))
+        (states_of units.old) (states_of units.new) (W.means wire.old) (W.means wire.new) result }
 {
     match receive_waiting::<T, W>(&*wire, units, passed, unit, place) {
         Ok(sends) => Ok(go_out(wire, unit_count(passed), unit, units, sends)),

@@ -35,7 +35,7 @@ fn receive_bytes<T: Ticket>(
 ) -> Result<Sends, ShedFault>
     requires { unit < length units.old }
     ensures { ActedBy
-        (or_else (by_packet (packet_fault views refuses (length (table_of passed.now).quorums) bytes.now))
+        (or_else (by_packet (packet_fault views T.refuses (length (table_of passed.now).quorums) bytes.now))
         (by_unit (act_fault views (table_of passed.now) unit (receiving sender (handed bytes.now)) (state_at (states_of units.old) unit))))
         (table_of passed.now) unit (receiving sender (handed bytes.now)) (states_of units.old) (states_of units.new) result }
 {
@@ -59,9 +59,9 @@ pub fn receive_waiting<T: Ticket, W: Wire>(
 ) -> Result<Sends, ShedFault>
     requires { unit < length units.old }
     ensures { ActedBy
-        (or_else (read_fault refuses (table_of passed.now) (means wire.now) unit place)
-        (by_unit (act_fault views (table_of passed.now) unit (receiving (waits_at (means wire.now) unit place).sender (handed (waits_at (means wire.now) unit place).bytes)) (state_at (states_of units.old) unit))))
-        (table_of passed.now) unit (receiving (waits_at (means wire.now) unit place).sender (handed (waits_at (means wire.now) unit place).bytes))
+        (or_else (read_fault T.refuses (table_of passed.now) (W.means wire.now) unit place)
+        (by_unit (act_fault views (table_of passed.now) unit (receiving (waits_at (W.means wire.now) unit place).sender (handed (waits_at (W.means wire.now) unit place).bytes)) (state_at (states_of units.old) unit))))
+        (table_of passed.now) unit (receiving (waits_at (W.means wire.now) unit place).sender (handed (waits_at (W.means wire.now) unit place).bytes))
         (states_of units.old) (states_of units.new) result }
 {
     let mut bytes = [0; PACKET_BYTES];

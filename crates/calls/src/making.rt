@@ -16,8 +16,8 @@ pub fn ask_making<W: Wire>(
     wire: &W,
 ) -> Result<(), ShedFault>
     ensures { MatchResult result
-        (λ _. (made_fault (table_of passed.now) false_set memory (means wire.now) ≡ None) × MayMake (table_of passed.now) false_set memory (means wire.now))
-        (λ e. made_fault (table_of passed.now) false_set memory (means wire.now) ≡ Some e) }
+        (λ _. (made_fault (table_of passed.now) false_set memory (W.means wire.now) ≡ None) × MayMake (table_of passed.now) false_set memory (W.means wire.now))
+        (λ e. made_fault (table_of passed.now) false_set memory (W.means wire.now) ≡ Some e) }
 {
     if !passed.bearable(false_set) {
         return Err(ShedFault::Unbearable);

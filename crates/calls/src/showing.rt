@@ -41,7 +41,7 @@ pub fn choice_at(
 
 // An announcement.
 pub fn show<T: Ticket>(announced: Option<Announcement>) -> Result<Option<Shown<T>>, ShedFault>
-    ensures { MatchResult result (λ v. (show_fault refuses announced ≡ None) × Shows written announced v) (λ e. show_fault refuses announced ≡ Some e) }
+    ensures { MatchResult result (λ v. (show_fault T.refuses announced ≡ None) × Shows T.written announced v) (λ e. show_fault T.refuses announced ≡ Some e) }
 {
     let Some(found) = announced else {
         return Ok(None);
@@ -60,7 +60,7 @@ pub fn show<T: Ticket>(announced: Option<Announcement>) -> Result<Option<Shown<T
 pub fn show_choice<T: Ticket>(
     chosen: Option<Choice<Writing>>,
 ) -> Result<Option<Choice<T>>, ShedFault>
-    ensures { MatchResult result (λ v. (choice_fault refuses chosen ≡ None) × ShowsChoice written chosen v) (λ e. choice_fault refuses chosen ≡ Some e) }
+    ensures { MatchResult result (λ v. (choice_fault T.refuses chosen ≡ None) × ShowsChoice T.written chosen v) (λ e. choice_fault T.refuses chosen ≡ Some e) }
 {
     match chosen {
         None => Ok(None),

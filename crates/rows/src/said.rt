@@ -22,7 +22,8 @@ pub fn senders(rows: &[Option<Row>; 16], test: Test, ticket: Writing) -> u16
 {
     let mut mask: u16 = 0;
     for x in 0..16 {
-        if says(rows[x], test, ticket) {
+        let said = says(rows[x], test, ticket);
+        if said {
             mask = sets::with(mask, x as u32);
         }
     }

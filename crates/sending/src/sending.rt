@@ -21,10 +21,10 @@ const NO_POSTS: Tally = Tally { laid: 0, lost: 0 };
 
 // One packet to the n units of the wire. The wire's questions are met, so nothing is refused.
 fn send_packet<W: Wire>(wire: &mut W, n: u32, me: u32, packet: &[u8]) -> Tally
-    requires serves { (means wire.old).served ≡ n }
+    requires serves { (W.means wire.old).served ≡ n }
     requires named { me < n }
     requires short { length packet.now ≤ packet_bytes }
-    ensures { SentAll rule (means wire.old) me n packet.now result (means wire.new) }
+    ensures { SentAll W.rule (W.means wire.old) me n packet.now result (W.means wire.new) }
 {
     match send_all(wire, me, n, packet) {
         Ok(tally) => tally,
@@ -34,9 +34,9 @@ fn send_packet<W: Wire>(wire: &mut W, n: u32, me: u32, packet: &[u8]) -> Tally
 
 // A put.
 fn send_put<W: Wire>(wire: &mut W, n: u32, me: u32, view: u32, ticket: Writing) -> Tally
-    requires serves { (means wire.old).served ≡ n }
+    requires serves { (W.means wire.old).served ≡ n }
     requires named { me < n }
-    ensures { Went rule n me (says_put view ticket ∷ []) (means wire.old) (means wire.new) result }
+    ensures { Went W.rule n me (says_put view ticket ∷ []) (W.means wire.old) (W.means wire.new) result }
 {
     writing_fits(ticket);
     let mut bytes = [0; PACKET_BYTES];
@@ -48,9 +48,9 @@ fn send_put<W: Wire>(wire: &mut W, n: u32, me: u32, view: u32, ticket: Writing) 
 
 // A row.
 fn send_row<W: Wire>(wire: &mut W, n: u32, me: u32, view: u32, row: Row) -> Tally
-    requires serves { (means wire.old).served ≡ n }
+    requires serves { (W.means wire.old).served ≡ n }
     requires named { me < n }
-    ensures { Went rule n me (says_row view row ∷ []) (means wire.old) (means wire.new) result }
+    ensures { Went W.rule n me (says_row view row ∷ []) (W.means wire.old) (W.means wire.new) result }
 {
     row_fits(row);
     let mut bytes = [0; PACKET_BYTES];
@@ -62,11 +62,11 @@ fn send_row<W: Wire>(wire: &mut W, n: u32, me: u32, view: u32, row: Row) -> Tall
 
 // A report for a view: of the rows, those of the views below it.
 fn send_report<W: Wire>(wire: &mut W, n: u32, me: u32, view: u32, rows: &[Option<Row>; 8]) -> Tally
-    requires serves { (means wire.old).served ≡ n }
+    requires serves { (W.means wire.old).served ≡ n }
     requires named { me < n }
     requires low { view < views }
     requires only { below view rows.now ≡ rows.now }
-    ensures { Went rule n me (says_report view rows.now ∷ []) (means wire.old) (means wire.new) result }
+    ensures { Went W.rule n me (says_report view rows.now ∷ []) (W.means wire.old) (W.means wire.new) result }
 {
     let entries = &rows[..view as usize];
     rows_fit(entries);
@@ -79,9 +79,9 @@ fn send_report<W: Wire>(wire: &mut W, n: u32, me: u32, view: u32, rows: &[Option
 
 // A unit's put, if it is wanted and there.
 fn put_out<W: Wire>(wire: &mut W, n: u32, me: u32, unit: &ControlUnit, wanted: bool) -> Tally
-    requires serves { (means wire.old).served ≡ n }
+    requires serves { (W.means wire.old).served ≡ n }
     requires named { me < n }
-    ensures { Went rule n me (only_if wanted (put_said (state_of unit.now).view (state_of unit.now).put)) (means wire.old) (means wire.new) result }
+    ensures { Went W.rule n me (only_if wanted (put_said (state_of unit.now).view (state_of unit.now).put)) (W.means wire.old) (W.means wire.new) result }
 {
     if !wanted {
         return NO_POSTS;
@@ -94,9 +94,9 @@ fn put_out<W: Wire>(wire: &mut W, n: u32, me: u32, unit: &ControlUnit, wanted: b
 
 // Its own row of its view, if it is wanted and there.
 fn row_out<W: Wire>(wire: &mut W, n: u32, me: u32, unit: &ControlUnit, wanted: bool) -> Tally
-    requires serves { (means wire.old).served ≡ n }
+    requires serves { (W.means wire.old).served ≡ n }
     requires named { me < n }
-    ensures { Went rule n me (only_if wanted (row_said (state_of unit.now).view (own_at (state_of unit.now) (state_of unit.now).view))) (means wire.old) (means wire.new) result }
+    ensures { Went W.rule n me (only_if wanted (row_said (state_of unit.now).view (own_at (state_of unit.now) (state_of unit.now).view))) (W.means wire.old) (W.means wire.new) result }
 {
     if !wanted {
         return NO_POSTS;
@@ -109,10 +109,10 @@ fn row_out<W: Wire>(wire: &mut W, n: u32, me: u32, unit: &ControlUnit, wanted: b
 
 // Its report, if it is wanted.
 fn report_out<W: Wire>(wire: &mut W, n: u32, me: u32, unit: &ControlUnit, wanted: bool) -> Tally
-    requires serves { (means wire.old).served ≡ n }
+    requires serves { (W.means wire.old).served ≡ n }
     requires named { me < n }
     requires low { wanted ≡ true → (state_of unit.now).view < views }
-    ensures { Went rule n me (only_if wanted (report_said (state_of unit.now))) (means wire.old) (means wire.new) result }
+    ensures { Went W.rule n me (only_if wanted (report_said (state_of unit.now))) (W.means wire.old) (W.means wire.new) result }
 {
     if !wanted {
         return NO_POSTS;
@@ -123,11 +123,11 @@ fn report_out<W: Wire>(wire: &mut W, n: u32, me: u32, unit: &ControlUnit, wanted
 
 // What a unit sends goes out in order: its put, its row, its report.
 fn unit_out<W: Wire>(wire: &mut W, n: u32, me: u32, unit: &ControlUnit, sends: Sends) -> Tally
-    requires serves { (means wire.old).served ≡ n }
+    requires serves { (W.means wire.old).served ≡ n }
     requires named { me < n }
     requires few { n ≤ units_most }
     requires low { sends.report ≡ true → (state_of unit.now).view < views }
-    ensures { GoesOut rule n me (outgoing sends (state_of unit.now)) (means wire.old) (means wire.new) result.laid result.lost }
+    ensures { GoesOut W.rule n me (outgoing sends (state_of unit.now)) (W.means wire.old) (W.means wire.new) result.laid result.lost }
 {
     let put = put_out(wire, n, me, unit, sends.put);
     let row = row_out(wire, n, me, unit, sends.row);
@@ -140,12 +140,12 @@ fn unit_out<W: Wire>(wire: &mut W, n: u32, me: u32, unit: &ControlUnit, sends: S
 
 // What one of several units sends goes out.
 pub fn go_out<W: Wire>(wire: &mut W, n: u32, me: u32, units: &[ControlUnit], sends: Sends) -> Tally
-    requires serves { (means wire.old).served ≡ n }
+    requires serves { (W.means wire.old).served ≡ n }
     requires named { me < n }
     requires few { n ≤ units_most }
     requires held { n ≤ length units.now }
     requires low { sends.report ≡ true → (state_at (states_of units.now) me).view < views }
-    ensures { GoesOut rule n me (outgoing sends (state_at (states_of units.now) me)) (means wire.old) (means wire.new) result.laid result.lost }
+    ensures { GoesOut W.rule n me (outgoing sends (state_at (states_of units.now) me)) (W.means wire.old) (W.means wire.new) result.laid result.lost }
 {
     unit_out(wire, n, me, &units[me as usize], sends)
 }

@@ -21,9 +21,9 @@ impl<'a, T: Ticket, W: Wire> Shed<'a, T, W> {
     // What a call asks first of a unit that it is to work with.
     fn ask(&self, unit: u32) -> Result<(), ShedFault>
         ensures { MatchResult result
-            (λ _. (asked (world_of means self.now) unit ≡ None)
-            × Ready (world_of means self.now).table.units (length self.now.units.now) (world_of means self.now).wire.served unit)
-            (λ e. asked (world_of means self.now) unit ≡ Some e) }
+            (λ _. (asked (world_of W.means self.now) unit ≡ None)
+            × Ready (world_of W.means self.now).table.units (length self.now.units.now) (world_of W.means self.now).wire.served unit)
+            (λ e. asked (world_of W.means self.now) unit ≡ Some e) }
     {
         let n = self.table.units();
         let memory = memory_of(&*self.units);
@@ -33,7 +33,7 @@ impl<'a, T: Ticket, W: Wire> Shed<'a, T, W> {
 
     // Of a unit, sound or false.
     fn ask_any(&self, unit: u32) -> Result<(), ShedFault>
-        ensures { MatchResult result (λ _. asked_named (world_of means self.now) unit ≡ None) (λ e. asked_named (world_of means self.now) unit ≡ Some e) }
+        ensures { MatchResult result (λ _. asked_named (world_of W.means self.now) unit ≡ None) (λ e. asked_named (world_of W.means self.now) unit ≡ Some e) }
     {
         let n = self.table.units();
         let memory = memory_of(&*self.units);
@@ -43,7 +43,7 @@ impl<'a, T: Ticket, W: Wire> Shed<'a, T, W> {
 
     // Of the sender and the addressee of a forged packet.
     fn ask_forgery(&self, sender: u32, to: u32) -> Result<(), ShedFault>
-        ensures { MatchResult result (λ _. asked_forged (world_of means self.now) sender to ≡ None) (λ e. asked_forged (world_of means self.now) sender to ≡ Some e) }
+        ensures { MatchResult result (λ _. asked_forged (world_of W.means self.now) sender to ≡ None) (λ e. asked_forged (world_of W.means self.now) sender to ≡ Some e) }
     {
         let n = self.table.units();
         let memory = memory_of(&*self.units);
@@ -53,7 +53,7 @@ impl<'a, T: Ticket, W: Wire> Shed<'a, T, W> {
 
     // A unit puts a ticket.
     pub fn put(&mut self, unit: u32, ticket: &T) -> Result<Tally, ShedFault>
-        ensures { Did (ways written refuses rule) (world_of means self.old) (call.put unit ticket.now) result (world_of means self.new) }
+        ensures { Did (ways T.written T.refuses W.rule) (world_of W.means self.old) (call.put unit ticket.now) result (world_of W.means self.new) }
     {
         let writing = ticket.writing();
         lending::put(
@@ -68,7 +68,7 @@ impl<'a, T: Ticket, W: Wire> Shed<'a, T, W> {
 
     // A unit is handed the packet that waits for it at a place; the packet stays waiting.
     pub fn deliver(&mut self, unit: u32, place: u32) -> Result<Tally, ShedFault>
-        ensures { Did (ways written refuses rule) (world_of means self.old) (call.deliver unit place) result (world_of means self.new) }
+        ensures { Did (ways T.written T.refuses W.rule) (world_of W.means self.old) (call.deliver unit place) result (world_of W.means self.new) }
     {
         // the unit first, then what waits for it
         lending::deliver::<T, W>(
@@ -83,7 +83,7 @@ impl<'a, T: Ticket, W: Wire> Shed<'a, T, W> {
 
     // A unit raises its view.
     pub fn raise(&mut self, unit: u32, view: u32) -> Result<Tally, ShedFault>
-        ensures { Did (ways written refuses rule) (world_of means self.old) (call.raise unit view) result (world_of means self.new) }
+        ensures { Did (ways T.written T.refuses W.rule) (world_of W.means self.old) (call.raise unit view) result (world_of W.means self.new) }
     {
         lending::raise(
             &mut self.wire,
@@ -97,7 +97,7 @@ impl<'a, T: Ticket, W: Wire> Shed<'a, T, W> {
 
     // A unit sends again what it has of its view.
     pub fn repeat(&mut self, unit: u32) -> Result<Tally, ShedFault>
-        ensures { Did (ways written refuses rule) (world_of means self.old) (call.repeat unit) result (world_of means self.new) }
+        ensures { Did (ways T.written T.refuses W.rule) (world_of W.means self.old) (call.repeat unit) result (world_of W.means self.new) }
     {
         lending::repeat(
             &mut self.wire,
@@ -110,7 +110,7 @@ impl<'a, T: Ticket, W: Wire> Shed<'a, T, W> {
 
     // A packet that waits for a unit is lost.
     pub fn lose(&mut self, unit: u32, place: u32) -> Result<Tally, ShedFault>
-        ensures { Did (ways written refuses rule) (world_of means self.old) (call.lose unit place) result (world_of means self.new) }
+        ensures { Did (ways T.written T.refuses W.rule) (world_of W.means self.old) (call.lose unit place) result (world_of W.means self.new) }
     {
         self.ask_any(unit)?;
         self.wire.drop(unit, place)?;
@@ -119,7 +119,7 @@ impl<'a, T: Ticket, W: Wire> Shed<'a, T, W> {
 
     // Any bytes are posted under a false unit's number.
     pub fn forge(&mut self, sender: u32, to: u32, packet: &[u8]) -> Result<Tally, ShedFault>
-        ensures { Did (ways written refuses rule) (world_of means self.old) (call.forge sender to packet.now) result (world_of means self.new) }
+        ensures { Did (ways T.written T.refuses W.rule) (world_of W.means self.old) (call.forge sender to packet.now) result (world_of W.means self.new) }
     {
         self.ask_forgery(sender, to)?;
         self.wire.post(sender, to, packet)?;
@@ -127,7 +127,7 @@ impl<'a, T: Ticket, W: Wire> Shed<'a, T, W> {
     }
 
     fn shown(&self, unit: u32) -> Result<Option<Shown<T>>, ShedFault>
-        ensures { Did (ways written refuses rule) (world_of means self.now) (call.announce unit) result (world_of means self.now) }
+        ensures { Did (ways T.written T.refuses W.rule) (world_of W.means self.now) (call.announce unit) result (world_of W.means self.now) }
     {
         self.ask(unit)?;
         let announced = announcement_at(&*self.units, unit);
@@ -137,15 +137,15 @@ impl<'a, T: Ticket, W: Wire> Shed<'a, T, W> {
     // What a unit has announced, if it has, with its ticket as one of the kind. After any calls: no two sound units
     // have announced different tickets, and all else that is promised of a run.
     pub fn announce(&self, unit: u32) -> Result<Option<Shown<T>>, ShedFault>
-        ensures did { Did (ways written refuses rule) (world_of means self.now) (call.announce unit) result (world_of means self.now) }
-        ensures promised { (run : Run (ways written refuses rule) (world_of means self.now)) → Promised (ways written refuses rule) (world_of means self.now) run }
+        ensures did { Did (ways T.written T.refuses W.rule) (world_of W.means self.now) (call.announce unit) result (world_of W.means self.now) }
+        ensures promised { (run : Run (ways T.written T.refuses W.rule) (world_of W.means self.now)) → Promised (ways T.written T.refuses W.rule) (world_of W.means self.now) run }
     {
         self.shown(unit)
     }
 
     // What the reports that a unit keeps of a quorum's units let it put; none where one is missing.
     pub fn choice(&self, unit: u32, quorum: u32) -> Result<Option<Choice<T>>, ShedFault>
-        ensures { Did (ways written refuses rule) (world_of means self.now) (call.choice unit quorum) result (world_of means self.now) }
+        ensures { Did (ways T.written T.refuses W.rule) (world_of W.means self.now) (call.choice unit quorum) result (world_of W.means self.now) }
     {
         self.ask(unit)?;
         let chosen = choice_at(&*self.units, &self.table, unit, quorum);

@@ -23,10 +23,10 @@ pub(crate) fn put<W: Wire>(
     unit: u32,
     ticket: Writing,
 ) -> Result<Tally, ShedFault>
-    ensures { ActedOut rule
-        (or_else (asked (world (table_of passed.now) false_set (states_of units.old.now) (means wire.old.now)) unit)
+    ensures { ActedOut W.rule
+        (or_else (asked (world (table_of passed.now) false_set (states_of units.old.now) (W.means wire.old.now)) unit)
         (by_unit (act_fault views (table_of passed.now) unit (putting ticket) (state_at (states_of units.old.now) unit))))
-        (table_of passed.now) unit (putting ticket) (states_of units.old.now) (states_of units.new.now) (means wire.old.now) (means wire.new.now) result }
+        (table_of passed.now) unit (putting ticket) (states_of units.old.now) (states_of units.new.now) (W.means wire.old.now) (W.means wire.new.now) result }
 {
     acting::put(*wire, *units, passed, false_set, unit, ticket)
 }
@@ -40,10 +40,10 @@ pub(crate) fn raise<W: Wire>(
     unit: u32,
     view: u32,
 ) -> Result<Tally, ShedFault>
-    ensures { ActedOut rule
-        (or_else (asked (world (table_of passed.now) false_set (states_of units.old.now) (means wire.old.now)) unit)
+    ensures { ActedOut W.rule
+        (or_else (asked (world (table_of passed.now) false_set (states_of units.old.now) (W.means wire.old.now)) unit)
         (by_unit (act_fault views (table_of passed.now) unit (raising view) (state_at (states_of units.old.now) unit))))
-        (table_of passed.now) unit (raising view) (states_of units.old.now) (states_of units.new.now) (means wire.old.now) (means wire.new.now) result }
+        (table_of passed.now) unit (raising view) (states_of units.old.now) (states_of units.new.now) (W.means wire.old.now) (W.means wire.new.now) result }
 {
     acting::raise(*wire, *units, passed, false_set, unit, view)
 }
@@ -56,10 +56,10 @@ pub(crate) fn repeat<W: Wire>(
     false_set: u16,
     unit: u32,
 ) -> Result<Tally, ShedFault>
-    ensures { ActedOut rule
-        (or_else (asked (world (table_of passed.now) false_set (states_of units.old.now) (means wire.old.now)) unit)
+    ensures { ActedOut W.rule
+        (or_else (asked (world (table_of passed.now) false_set (states_of units.old.now) (W.means wire.old.now)) unit)
         (in_view (state_at (states_of units.old.now) unit)))
-        (table_of passed.now) unit repeating (states_of units.old.now) (states_of units.new.now) (means wire.old.now) (means wire.new.now) result }
+        (table_of passed.now) unit repeating (states_of units.old.now) (states_of units.new.now) (W.means wire.old.now) (W.means wire.new.now) result }
 {
     acting::repeat(*wire, *units, passed, false_set, unit)
 }
@@ -73,12 +73,12 @@ pub(crate) fn deliver<T: Ticket, W: Wire>(
     unit: u32,
     place: u32,
 ) -> Result<Tally, ShedFault>
-    ensures { ActedOut rule
-        (or_else (asked (world (table_of passed.now) false_set (states_of units.old.now) (means wire.old.now)) unit)
-        (or_else (read_fault refuses (table_of passed.now) (means wire.old.now) unit place)
-        (by_unit (act_fault views (table_of passed.now) unit (receiving (waits_at (means wire.old.now) unit place).sender (handed (waits_at (means wire.old.now) unit place).bytes)) (state_at (states_of units.old.now) unit)))))
-        (table_of passed.now) unit (receiving (waits_at (means wire.old.now) unit place).sender (handed (waits_at (means wire.old.now) unit place).bytes))
-        (states_of units.old.now) (states_of units.new.now) (means wire.old.now) (means wire.new.now) result }
+    ensures { ActedOut W.rule
+        (or_else (asked (world (table_of passed.now) false_set (states_of units.old.now) (W.means wire.old.now)) unit)
+        (or_else (read_fault T.refuses (table_of passed.now) (W.means wire.old.now) unit place)
+        (by_unit (act_fault views (table_of passed.now) unit (receiving (waits_at (W.means wire.old.now) unit place).sender (handed (waits_at (W.means wire.old.now) unit place).bytes)) (state_at (states_of units.old.now) unit)))))
+        (table_of passed.now) unit (receiving (waits_at (W.means wire.old.now) unit place).sender (handed (waits_at (W.means wire.old.now) unit place).bytes))
+        (states_of units.old.now) (states_of units.new.now) (W.means wire.old.now) (W.means wire.new.now) result }
 {
     acting::deliver::<T, W>(*wire, *units, passed, false_set, unit, place)
 }

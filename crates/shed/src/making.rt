@@ -31,8 +31,8 @@ impl<'a, T: Ticket, W: Wire> Shed<'a, T, W> {
         wire: &'a mut W,
     ) -> Result<Shed<'a, T, W>, ShedFault>
         ensures { MatchResult result
-            (λ s. Makes (table_of table.entry) false_set (states_of units.old) (means wire.old) (world_of means s))
-            (λ e. made_fault (table_of table.entry) false_set (length (states_of units.old)) (means wire.old) ≡ Some e) }
+            (λ s. Makes (table_of table.entry) false_set (states_of units.old) (W.means wire.old) (world_of W.means s))
+            (λ e. made_fault (table_of table.entry) false_set (length (states_of units.old)) (W.means wire.old) ≡ Some e) }
     {
         let memory = memory_of(&*units);
         match ask_making(&table, false_set, memory, &*wire) {

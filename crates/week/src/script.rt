@@ -19,7 +19,7 @@ pub fn put<T: Ticket, W: Wire>(
     unit: u32,
     ticket: &T,
 ) -> io::Result<()>
-    ensures { Continues (ways written refuses rule) (world_of means shed.old) (world_of means shed.new) }
+    ensures { Continues (ways T.written T.refuses W.rule) (world_of W.means shed.old) (world_of W.means shed.new) }
 {
     let answer = shed.put(unit, ticket);
     print_put(rt, unit, ticket, answer)
@@ -32,7 +32,7 @@ pub fn deliver<T: Ticket, W: Wire>(
     unit: u32,
     place: u32,
 ) -> io::Result<()>
-    ensures { Continues (ways written refuses rule) (world_of means shed.old) (world_of means shed.new) }
+    ensures { Continues (ways T.written T.refuses W.rule) (world_of W.means shed.old) (world_of W.means shed.new) }
 {
     let answer = shed.deliver(unit, place);
     print_delivered(rt, unit, place, answer)
@@ -46,7 +46,7 @@ pub fn deliver_all<T: Ticket, W: Wire>(
     from: u32,
     to: u32,
 ) -> io::Result<()>
-    ensures { Continues (ways written refuses rule) (world_of means shed.old) (world_of means shed.new) }
+    ensures { Continues (ways T.written T.refuses W.rule) (world_of W.means shed.old) (world_of W.means shed.new) }
 {
     for place in from..to {
         deliver(rt, shed, unit, place)?;
@@ -61,7 +61,7 @@ pub fn raise<T: Ticket, W: Wire>(
     unit: u32,
     view: u32,
 ) -> io::Result<()>
-    ensures { Continues (ways written refuses rule) (world_of means shed.old) (world_of means shed.new) }
+    ensures { Continues (ways T.written T.refuses W.rule) (world_of W.means shed.old) (world_of W.means shed.new) }
 {
     let answer = shed.raise(unit, view);
     print_raised(rt, unit, view, answer)
@@ -73,7 +73,7 @@ pub fn repeat<T: Ticket, W: Wire>(
     shed: &mut Shed<'_, T, W>,
     unit: u32,
 ) -> io::Result<()>
-    ensures { Continues (ways written refuses rule) (world_of means shed.old) (world_of means shed.new) }
+    ensures { Continues (ways T.written T.refuses W.rule) (world_of W.means shed.old) (world_of W.means shed.new) }
 {
     let answer = shed.repeat(unit);
     print_repeated(rt, unit, answer)
@@ -86,7 +86,7 @@ pub fn lose<T: Ticket, W: Wire>(
     unit: u32,
     place: u32,
 ) -> io::Result<()>
-    ensures { Continues (ways written refuses rule) (world_of means shed.old) (world_of means shed.new) }
+    ensures { Continues (ways T.written T.refuses W.rule) (world_of W.means shed.old) (world_of W.means shed.new) }
 {
     let answer = shed.lose(unit, place);
     print_lost(rt, unit, place, answer)
@@ -100,7 +100,7 @@ pub fn forge<T: Ticket, W: Wire>(
     to: u32,
     packet: &[u8],
 ) -> io::Result<()>
-    ensures { Continues (ways written refuses rule) (world_of means shed.old) (world_of means shed.new) }
+    ensures { Continues (ways T.written T.refuses W.rule) (world_of W.means shed.old) (world_of W.means shed.new) }
 {
     let answer = shed.forge(sender, to, packet);
     print_forged(rt, sender, to, packet.len(), answer)

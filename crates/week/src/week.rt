@@ -89,7 +89,7 @@ fn act<T: Ticket + Drop, W: Wire>(
     tickets: &Tickets<'_, T>,
     step: Step,
 ) -> io::Result<()>
-    ensures { Continues (ways written refuses rule) (world_of means shed.old) (world_of means shed.new) }
+    ensures { Continues (ways T.written T.refuses W.rule) (world_of W.means shed.old) (world_of W.means shed.new) }
 {
     match step {
         Step::On(day) => println!(rt; "{}", day_name(day)),
@@ -114,7 +114,7 @@ pub fn run<T: Ticket + Drop, W: Wire>(
     tickets: &Tickets<'_, T>,
     steps: &[Step],
 ) -> io::Result<()>
-    ensures { Continues (ways written refuses rule) (world_of means shed.old) (world_of means shed.new) }
+    ensures { Continues (ways T.written T.refuses W.rule) (world_of W.means shed.old) (world_of W.means shed.new) }
 {
     for step in steps {
         act(rt, shed, tickets, *step)?;
@@ -128,8 +128,8 @@ pub fn announce<T: Ticket + Drop, W: Wire>(
     shed: &Shed<'_, T, W>,
     unit: u32,
 ) -> io::Result<Option<Shown<T>>>
-    ensures shown { IfOk result (λ v. (s : Told T) → v ≡ Some s → Did (ways written refuses rule) (world_of means shed.now) (call.announce unit) (Ok (Some s)) (world_of means shed.now)) }
-    ensures promised { (run : Run (ways written refuses rule) (world_of means shed.now)) → Promised (ways written refuses rule) (world_of means shed.now) run }
+    ensures shown { IfOk result (λ v. (s : Told T) → v ≡ Some s → Did (ways T.written T.refuses W.rule) (world_of W.means shed.now) (call.announce unit) (Ok (Some s)) (world_of W.means shed.now)) }
+    ensures promised { (run : Run (ways T.written T.refuses W.rule) (world_of W.means shed.now)) → Promised (ways T.written T.refuses W.rule) (world_of W.means shed.now) run }
 {
     let answer = shed.announce(unit);
     print!(rt; "the announcement of unit {unit}: ")?;
@@ -152,7 +152,7 @@ pub fn compare<T: Ticket + Drop, W: Wire>(
     tickets: &Tickets<'_, T>,
     steps: &[Step],
 ) -> io::Result<(Option<Shown<T>>, Option<Shown<T>>)>
-    ensures { Run (ways written refuses rule) (world_of means shed.old) → IfOk result (λ v. (s t : Told T) → v.0 ≡ Some s → v.1 ≡ Some t → s.ticket ≡ t.ticket) }
+    ensures { Run (ways T.written T.refuses W.rule) (world_of W.means shed.old) → IfOk result (λ v. (s t : Told T) → v.0 ≡ Some s → v.1 ≡ Some t → s.ticket ≡ t.ticket) }
 {
     run(rt, shed, tickets, steps)?;
     let first = announce(rt, shed, 0)?;
