@@ -9,7 +9,7 @@ pub record Parcel : Type 0 where
 abbrev pub parcel : ℕ → List ℕ → Parcel
 parcel from packet = record { sender = from; bytes = packet }
 
--- what getD reads past the end of a list
+-- what slice_index_or reads past the end of a list
 abbrev pub no_parcel : Parcel
 no_parcel = parcel 0 []
 

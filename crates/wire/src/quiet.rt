@@ -6,7 +6,7 @@ use crate::wire::Wire;
 
 // Whether no packet waits for any unit served.
 pub fn nothing_waits<W: Wire>(wire: &W) -> bool
-    ensures { Decides result (Quiet (means wire.now)) }
+    ensures { Decides result (Quiet (W.means wire.now)) }
 {
     let served = wire.served();
     for unit in 0..served {

@@ -10,7 +10,7 @@ use base::PACKET_BYTES;
 
 // Posts one packet to the units 0 to n - 1 in order; a post refused for want of a place counts as lost.
 pub fn send_all<W: Wire>(wire: &mut W, from: u32, n: u32, packet: &[u8]) -> Result<Tally, WireFault>
-    ensures { MatchResult result (λ tally. SentAll rule (means wire.old) from n packet.now tally (means wire.new)) (λ e. Refused (send_fault (means wire.old) from n packet.now) e (means wire.old) (means wire.new)) }
+    ensures { MatchResult result (λ tally. SentAll W.rule (W.means wire.old) from n packet.now tally (W.means wire.new)) (λ e. Refused (send_fault (W.means wire.old) from n packet.now) e (W.means wire.old) (W.means wire.new)) }
 {
     let served = wire.served();
     if from >= served {
