@@ -1,6 +1,6 @@
 -- Decisions: each is either a proof of its statement or of the contrary, so a definition that asks one says in its type what it asks.
-use Rattle.std.specs.Prelude.{◌≡◌, ℕ, zero, suc, ◌*◌, ◌/◌, ◌%◌, ◌^◌, ◌<◌, ◌≤◌, ◌⊎◌}
-use Rattle.std.proofs.Common.{sym, subst, inl, inr, arith, not-suc-le-zero}
+use Rattle.std.specs.Prelude.{ℕ, zero, suc, ◌/◌, ◌%◌, ◌^◌, ◌<◌, ◌⊎◌}
+use Rattle.std.proofs.Common.{subst, inl, inr, arith, not-suc-le-zero}
 use Rattle.std.proofs.Math.Nat.{div-eq_of_lt, pow-succ'}
 use Rattle.std.proofs.Math.Decide.{ℕ_discrete, dec_lt}
 use Rattle.sets.specs.Sets.{Has}

@@ -1,5 +1,5 @@
 -- A table that gives no question offence is proper; one that gives offence is not, and has one fault.
-use Rattle.std.proofs.Common.{◌≡◌, ℕ, zero, suc, ◌+◌, ◌<◌, ◌≤◌, ◌⊎◌, List, [], ◌∷◌, ◌++◌, length, get_or, take, set, sym, refl, ap, ◌∙◌, subst, inl, inr, add-one, arith, take-suc, take-suc-set}
+use Rattle.std.proofs.Common.{◌≡◌, ℕ, zero, suc, ◌+◌, ◌<◌, ◌≤◌, List, [], ◌∷◌, ◌++◌, length, get_or, take, set, sym, refl, ap, ◌∙◌, subst, inl, inr, add-one, arith, take-suc, take-suc-set}
 use Rattle.std.proofs.lemmas.Bool.{cases_order}
 use Rattle.table.specs.declared.question.Question.{Question}
 use Rattle.table.specs.declared.question.Question.TheVariants as asked
@@ -8,7 +8,7 @@ use Rattle.table.specs.declared.fault.TableFault.{TableFault}
 use Rattle.table.specs.declared.fault.TableFault.TheVariants as faults
 use Rattle.table.specs.Tables.{Quorum, QuorumTable, table_of, Proper}
 use Rattle.table.specs.Faults.{table_says}
-use Rattle.table.specs.Questions.{question_of, places_of, fault_of, Fine, AllFine, FirstUnfit, Found}
+use Rattle.table.specs.Questions.{question_of, fault_of, AllFine, FirstUnfit, Found}
 
 pub proper_from : (tb : QuorumTable) → ((k : ℕ) → k < 10 → 1 ≤ k → AllFine (question_of k) tb) → Proper tb
 proper_from tb f =

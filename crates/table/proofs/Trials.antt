@@ -1,20 +1,20 @@
 -- The questions as tests that compute, for the samples.
-use Rattle.std.proofs.Common.{◌≡◌, ℕ, zero, suc, ◌+◌, ◌/◌, ◌^◌, ◌<◌, ◌≤◌, Bool, true, false, not, ◌&&◌, ◌||◌, eqb, ltb, leb, ◌⊎◌, List, [], ◌∷◌, length, get_or, Decides, sym, refl, ap, ◌∙◌, subst, inl, inr, arith}
+use Rattle.std.proofs.Common.{◌≡◌, ℕ, zero, suc, ◌/◌, ◌^◌, ◌<◌, ◌≤◌, Bool, true, false, not, ◌&&◌, ◌||◌, eqb, ltb, leb, ◌⊎◌, List, length, get_or, Decides, sym, refl, subst, arith}
 use lib.Bits.{bit_and, bit_or}
-use Rattle.std.proofs.lemmas.Bool.{eq-eqb, eqb-true, leb-true, le-leb, and_parts}
+use Rattle.std.proofs.lemmas.Bool.{leb-true, le-leb, and_parts}
 use Rattle.std.proofs.lemmas.Bool.Decides.{Decides-eqb, Decides-ltb, Decides-like, Decides-not, Decides-and, Decides-or, Decides-below_and, Decides-below_or}
 use Rattle.base.specs.Limits.{units_most, fault_sets_most, quorums_most}
-use Rattle.sets.specs.Sets.{Has, Set, Is, Inside, Below, Bearable, Basic, Large}
+use Rattle.sets.specs.Sets.{Has, Is, Inside, Below, Bearable, Basic, Large}
 use Rattle.sets.proofs.Bits.{or_has, has_or, and_has, has_and, inside_mask, mask_inside, same_mask, shift_below, below_shift, some_tells as some-tells-mask}
-use Rattle.sets.proofs.Sides.{bearable_of, basic_of, large_of}
+use Rattle.sets.proofs.Sides.{basic_of, large_of}
 use Rattle.table.specs.declared.question.Question.{Question}
 use Rattle.table.specs.declared.question.Question.TheVariants as asked
 use Rattle.table.specs.declared.question.PairQuestion.{PairQuestion}
 use Rattle.table.specs.declared.question.PairQuestion.TheVariants as pairs
 use Rattle.table.specs.declared.fault.TableFault.{TableFault}
-use Rattle.table.specs.Tables.{Quorum, no_quorum, QuorumTable, Proper, IsQuorum, quorum_at, In, class_of, Class1, Shared2, Shared3}
+use Rattle.table.specs.Tables.{QuorumTable, Proper, quorum_at, class_of, Shared2, Shared3}
 use Rattle.table.specs.Faults.{table_says}
-use Rattle.table.specs.Questions.{question_of, places_of, FineEntry, Differ, LargeWithAll, Second, Class1Basic, Third, FinePair, FinePairs, Fine, AllFine, FirstUnfit, Found}
+use Rattle.table.specs.Questions.{question_of, places_of, FinePair, Fine, AllFine, Found}
 use Rattle.table.specs.Samples.{SamplesHold}
 use Rattle.table.proofs.Masks.{three_last}
 use Rattle.table.proofs.Passes.{proper_from}

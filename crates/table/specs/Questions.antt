@@ -1,5 +1,5 @@
 -- The questions that a table is asked, in their order, and what each asks of each place.
-use Rattle.std.specs.Prelude.{◌≡◌, ℕ, ◌-◌, ◌<◌, ◌≤◌, ◌⊎◌, List, [], ◌∷◌, length, slice_index, slice_index_or}
+use Rattle.std.specs.Prelude.{◌≡◌, ℕ, ◌-◌, ◌<◌, ◌≤◌, ◌⊎◌, [], ◌∷◌, length, slice_index, slice_index_or}
 use Rattle.base.specs.Limits.{units_most, fault_sets_most, quorums_most}
 use Rattle.sets.specs.Sets.{Has, Is, Below, Basic, Large}
 use Rattle.table.specs.Tables.{Quorum, QuorumTable, IsQuorum, quorum_at, In, class_of, Class1, Shared2, Shared3}

@@ -1,6 +1,6 @@
 -- Worked samples of the check.
 use Rattle.std.specs.Prelude.{ℕ, List, [], ◌∷◌, Some, None, Option, MatchOption}
-use Rattle.std.specs.List.{AllByRecursion as All}
+use Rattle.std.specs.List.{AllByRecursion}
 use Rattle.table.specs.Tables.{Quorum, QuorumTable, table_of, Proper}
 use Rattle.table.specs.Questions.{Found}
 use Rattle.table.specs.declared.fault.TableFault.{TableFault}
@@ -39,4 +39,4 @@ abbrev pub Holds : Sample → Type 0
 Holds s = MatchOption s.verdict (Proper s.table) (λ e. Found s.table e)
 
 abbrev pub SamplesHold : Type 0
-SamplesHold = All Holds samples
+SamplesHold = AllByRecursion Holds samples

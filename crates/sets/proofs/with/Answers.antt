@@ -1,4 +1,4 @@
-use Rattle.std.proofs.Common.{◌⊎◌, inl, inr}
+use Rattle.std.proofs.Common.{inl, inr}
 use Rattle.sets.proofs.Bits.{with_is}
 use Rattle.sets.proofs.with.Goals as goal
 

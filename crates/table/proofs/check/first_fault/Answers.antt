@@ -1,7 +1,7 @@
-use Rattle.std.proofs.Common.{◌≡◌, ℕ, sym, subst, arith}
+use Rattle.std.proofs.Common.{sym, subst, arith}
 use Rattle.table.specs.declared.question.Question.{Question}
 use Rattle.table.specs.declared.fault.TableFault.{TableFault}
-use Rattle.table.specs.Questions.{FirstUnfit, Found, fault_of, question_of}
+use Rattle.table.specs.Questions.{FirstUnfit, Found, fault_of}
 use Rattle.table.specs.Means.{listed}
 use Rattle.table.proofs.Passes.{proper_from, found_from}
 use Rattle.table.proofs.check.first_fault.Goals as goal

@@ -1,4 +1,4 @@
-use Rattle.std.proofs.Common.{ℕ, Bool, Decides, arith, below_more}
+use Rattle.std.proofs.Common.{ℕ, arith, below_more}
 use Rattle.std.proofs.lemmas.Bool.Decides.{not_from_Decides}
 use Rattle.sets.specs.Sets.{Large}
 use Rattle.sets.proofs.Sides.{large_of, one_falls, all_stand}
