@@ -1,5 +1,5 @@
 -- Proofs of the laws of growth and announcement.
-use Rattle.std.proofs.Common.{◌≡◌, ℕ, zero, suc, ◌^◌, ◌<◌, Bool, true, ◌⊎◌, length, Some, None, Option, sym, refl, subst, inl, inr, arith}
+use Rattle.std.proofs.Common.{◌≡◌, ℕ, zero, suc, ◌^◌, ◌<◌, Bool, true, length, Some, None, Option, sym, refl, subst, inl, inr, arith}
 use native.Mathlib.Decide.{ℕ_discrete}
 use lib.Bits.{bit_or}
 use Rattle.sets.specs.Sets.{Has, Same}
@@ -8,11 +8,10 @@ use Rattle.sets.proofs.Bits.{none_has, or_has, has_or, power_has, has_power}
 use Rattle.table.specs.Tables.{QuorumTable}
 use Rattle.ticket.specs.declared.writing.Writing.{Writing}
 use Rattle.rows.specs.declared.row.Row.{Row}
-use Rattle.rows.specs.declared.rule.Rule.{Rule}
 use Rattle.rows.specs.declared.rule.Rule.TheVariants as rules
 use Rattle.rows.specs.Rows.{For}
 use Rattle.rows.specs.Decided.{for?}
-use Rattle.growth.specs.Growth.{Entire, entire?, places_below, grown_set, mark?, grown, Met, met?, least_rule}
+use Rattle.growth.specs.Growth.{Entire, entire?, places_below, mark?, Met, met?}
 use Rattle.growth.specs.Laws.{GrownSetIsHeardEntire, GrownRowStays, Least, LeastRuleIsLeast}
 
 module _ (tb : QuorumTable) (h : ℕ → Option Row) (t : Writing) where

@@ -1,5 +1,5 @@
 -- How a row grows by what was heard, and what may be announced.
-use Rattle.std.specs.Prelude.{◌≡◌, ℕ, zero, suc, ◌^◌, ◌<◌, true, length, Some, None, Option, bit_or}
+use Rattle.std.specs.Prelude.{◌≡◌, ℕ, zero, suc, ◌^◌, true, length, Some, None, Option, bit_or}
 use Rattle.std.proofs.Math.Decide.{ℕ_discrete}
 use Rattle.sets.specs.Decisions.{pick, both?, not?, some?, all_in?}
 use Rattle.table.specs.Tables.{QuorumTable, IsQuorum, quorum_at, In, class_of}
@@ -7,7 +7,7 @@ use Rattle.ticket.specs.declared.writing.Writing.{Writing}
 use Rattle.rows.specs.declared.row.Row.{Row}
 use Rattle.rows.specs.declared.rule.Rule.{Rule}
 use Rattle.rows.specs.declared.rule.Rule.TheVariants as rules
-use Rattle.rows.specs.Rows.{Holds, For, ForFilled}
+use Rattle.rows.specs.Rows.{Holds, ForFilled}
 use Rattle.rows.specs.Decided.{holds?, for?, for_filled?}
 use Rattle.rows.specs.Rules.{Ranked, Needed, ranked?, needed?}
 

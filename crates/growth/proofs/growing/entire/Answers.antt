@@ -1,4 +1,3 @@
-use Rattle.std.proofs.Common.{ℕ}
 use Rattle.table.specs.Means.{listed}
 use Rattle.rows.specs.Rows.{row_in}
 use Rattle.rows.specs.Rules.{Needed}

@@ -1,4 +1,4 @@
-use Rattle.std.proofs.Common.{◌≡◌, Option, ap, ◌∙◌}
+use Rattle.std.proofs.Common.{ap, ◌∙◌}
 use Rattle.rows.specs.Rows.{row_in}
 use Rattle.table.specs.Tables.{QuorumTable}
 use Rattle.growth.specs.Growth.{least_rule}
