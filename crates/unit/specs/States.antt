@@ -30,8 +30,8 @@ means u = record {
   announced = u.announced;
 }
 
-abbrev pub field_own : State → ℕ → Option Row
-field_own s v = row_in s.own v
+abbrev pub own_at : State → ℕ → Option Row
+own_at s v = row_in s.own v
 
 abbrev pub heard_at : State → ℕ → ℕ → Option Row
 heard_at s v x = cell s.heard v x
