@@ -1,5 +1,5 @@
 -- The choice over more and more rows.
-use Rattle.std.proofs.Common.{◌≡◌, ℕ, zero, suc, ◌+◌, ◌<◌, ◌≤◌, ◌⊎◌, Some, None, Option, sym, refl, ◌∙◌, subst, inl, inr, arith}
+use Rattle.std.proofs.Common.{◌≡◌, ℕ, ◌+◌, ◌<◌, ◌⊎◌, Some, Option, sym, refl, ◌∙◌, subst, inl, inr, arith}
 use native.Mathlib.Decide.{ℕ_discrete}
 use Rattle.table.specs.Tables.{QuorumTable, In}
 use Rattle.ticket.specs.declared.writing.Writing.{Writing}
@@ -7,7 +7,7 @@ use Rattle.rows.specs.declared.row.Row.{Row}
 use Rattle.rows.specs.Rows.{Grid, cell, Holds, For}
 use Rattle.choice.specs.Reports.{LiveIn, Candidate}
 use Rattle.choice.specs.Chosen.{Chosen}
-use Rattle.choice.specs.Steps.{Settled, joined_with, WithTicket, Before, Seen}
+use Rattle.choice.specs.Steps.{Settled, joined_with, WithTicket, Seen}
 use Rattle.choice.specs.declared.choice.Choice.{Choice}
 use Rattle.choice.specs.declared.choice.Choice.TheVariants.{Free, Only, Torn}
 

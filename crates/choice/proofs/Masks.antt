@@ -2,7 +2,7 @@
 use Rattle.std.proofs.Common.{◌≡◌, ℕ, ◌+◌, ◌<◌, Bool, ◌⊎◌, List, length, get_or, Decides, sym, subst, inl, inr, arith}
 use native.Mathlib.Decide.{ℕ_discrete}
 use Rattle.std.proofs.lemmas.Bool.Decides.{Decides-like}
-use Rattle.sets.specs.Sets.{Has, Set, Is, Inside, Bearable, Basic, fault_at}
+use Rattle.sets.specs.Sets.{Has, Set, Is, Bearable, Basic, fault_at}
 use Rattle.sets.proofs.Bits.{has?, none_has}
 use Rattle.sets.proofs.Sides.{basic_of}
 use Rattle.ticket.specs.declared.writing.Writing.{Writing}

@@ -1,8 +1,8 @@
 -- The defined choice is the one choice among the candidates.
-use Rattle.std.proofs.Common.{◌≡◌, ℕ, ◌<◌, ◌≤◌, ◌⊎◌, [], length, get_or, Some, None, Option, sym, refl, ap, ◌∙◌, subst, inl, inr, arith}
+use Rattle.std.proofs.Common.{◌≡◌, ℕ, ◌<◌, ◌≤◌, [], length, get_or, Option, sym, refl, ap, ◌∙◌, subst, inl, inr, arith}
 use native.Mathlib.Decide.{dec_lt}
 use Rattle.std.proofs.lemmas.List.{get_or_past}
-use Rattle.sets.specs.Sets.{Has, fault_at}
+use Rattle.sets.specs.Sets.{fault_at}
 use Rattle.sets.specs.Decisions.{both?, not?, has?, some_in?}
 use Rattle.table.specs.Tables.{QuorumTable, Proper, IsQuorum, quorum_at, In}
 use Rattle.ticket.specs.declared.writing.Writing.{Writing}
@@ -13,7 +13,7 @@ use Rattle.rows.specs.declared.rule.Rule.{Rule}
 use Rattle.rows.specs.declared.rule.Rule.TheVariants as rules
 use Rattle.rows.specs.Rules.{Needed}
 use Rattle.rows.proofs.Facts.{holds_map, needs_ticket}
-use Rattle.choice.specs.Reports.{BackedBy, Backed, Later, Barred, LiveIn, Live, Candidate}
+use Rattle.choice.specs.Reports.{BackedBy, Backed, Later, Barred, Live, Candidate}
 use Rattle.choice.specs.Lives.{SomeCandidate, some_candidate?}
 use Rattle.choice.specs.Chosen.{Chosen, beside, among, choice_of, ChoiceIsOfLive, ChoiceIsOne}
 use Rattle.choice.specs.declared.choice.Choice.{Choice}

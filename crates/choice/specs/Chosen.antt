@@ -5,7 +5,7 @@ use Rattle.table.specs.Tables.{QuorumTable, Proper, IsQuorum}
 use Rattle.ticket.specs.declared.writing.Writing.{Writing}
 use Rattle.rows.specs.Rows.{Grid}
 use Rattle.rows.specs.Decided.{same?}
-use Rattle.choice.specs.Reports.{Live, Candidate}
+use Rattle.choice.specs.Reports.{Live}
 use Rattle.choice.specs.Lives.{SomeCandidate, some_candidate?}
 pub use Rattle.choice.specs.declared.choice.Choice.{Choice}
 use Rattle.choice.specs.declared.choice.Choice.TheVariants.{Free, Only, Torn}

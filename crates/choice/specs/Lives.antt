@@ -1,5 +1,5 @@
 -- Whether a ticket is live can be decided.
-use Rattle.std.specs.Prelude.{◌≡◌, ℕ, ◌<◌, ◌⊎◌, length, Some, None, Option, slice_index, refl}
+use Rattle.std.specs.Prelude.{ℕ, ◌<◌, length, Some, None, Option, slice_index, refl}
 use Rattle.std.proofs.Common.{sym, subst}
 use Rattle.std.proofs.Math.Decide.{dec_lt}
 use Rattle.sets.specs.Sets.{Basic}
@@ -11,7 +11,7 @@ use Rattle.rows.specs.Rows.{Grid, cell, Holds, For}
 use Rattle.rows.specs.declared.rule.Rule.{Rule}
 use Rattle.rows.specs.declared.rule.Rule.TheVariants as rules
 use Rattle.rows.specs.Decided.{holds?, against?, against_filled?}
-use Rattle.rows.specs.Rules.{Ranked, Needed, ranked?, needed?}
+use Rattle.rows.specs.Rules.{ranked?, needed?}
 use Rattle.choice.specs.Reports.{AllBut, BackedBy, Backed, Later, Barred, LiveIn, Candidate}
 
 module _ (tb : QuorumTable) (q : ℕ) (kept : Grid) (w : ℕ) where

@@ -1,5 +1,5 @@
 -- What the reports of a quorum say.
-use Rattle.std.specs.Prelude.{◌≡◌, ℕ, ◌<◌, ◌⊎◌, length}
+use Rattle.std.specs.Prelude.{ℕ, ◌<◌, ◌⊎◌, length}
 use Rattle.sets.specs.Sets.{Basic, fault_at}
 use Rattle.table.specs.Tables.{QuorumTable, IsQuorum, In, class_of}
 use Rattle.ticket.specs.declared.writing.Writing.{Writing}

@@ -1,6 +1,6 @@
 -- Worked samples of the choice, from the reports of quorum 7 of the table with any one of four units false.
 use Rattle.std.specs.Prelude.{◌≡◌, ℕ, false, List, [], ◌∷◌, Some, None, Option}
-use Rattle.std.specs.List.{AllByRecursion as All}
+use Rattle.std.specs.List.{AllByRecursion}
 use Rattle.table.specs.Tables.{QuorumTable, table_of}
 use Rattle.table.specs.Samples.{quorum, one_of_four}
 use Rattle.ticket.specs.declared.writing.Writing.{Writing}
@@ -47,4 +47,4 @@ abbrev pub Holds : Sample → Type 0
 Holds s = choice_of four_units 1 s.kept s.view ≡ s.choice
 
 abbrev pub SamplesHold : Type 0
-SamplesHold = All Holds samples
+SamplesHold = AllByRecursion Holds samples

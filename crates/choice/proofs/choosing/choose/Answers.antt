@@ -1,4 +1,4 @@
-use Rattle.std.proofs.Common.{◌≡◌, ℕ, ap, ◌∙◌, subst, arith}
+use Rattle.std.proofs.Common.{ℕ, ap, ◌∙◌}
 use Rattle.table.specs.Tables.{QuorumTable}
 use Rattle.table.specs.Means.{means}
 use Rattle.choice.specs.Chosen.{choice_of}

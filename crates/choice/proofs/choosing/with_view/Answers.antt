@@ -12,6 +12,6 @@ returns c =
     let tb = listed c.args.table in
     let e : c.loop-x.x ≡ 16 = omega arith in
     view_done tb c.args.q c.args.grid.now c.args.w c.args.v 16
-    (λ y h. has_below 16 c.units_of-units.result y c.units_of-units.type-inv (subst (λ (z : ℕ). Has z y) (sym c.units_of-units.ensures) h))
+    (λ y h. has_below 16 c.units_of-units.result y c.units_of-units.type_inv (subst (λ (z : ℕ). Has z y) (sym c.units_of-units.ensures) h))
     c.loop-x.choice
     (subst (λ (x : ℕ). Chosen (Seen tb c.args.q c.args.grid.now c.args.w c.args.v x) c.loop-x.choice) e c.loop-x.invariant)
