@@ -1,6 +1,6 @@
 -- The questions asked of a packet, each of the whole packet before the next.
 -- `views` is the number of views, `quorums` that of the listed quorums, `refuses` the kind of ticket in use.
-use Rattle.std.specs.Prelude.{ℕ, zero, suc, ◌+◌, ◌/◌, ◌%◌, ◌^◌, Bool, true, false, cond, ◌&&◌, List, length, Some, None, Option, ◌==◌, nat_le, nat_lt}
+use Rattle.std.specs.Prelude.{ℕ, zero, suc, ◌+◌, ◌/◌, ◌%◌, ◌^◌, Bool, true, cond, ◌&&◌, List, length, Some, None, Option, ◌==◌, nat_le, nat_lt}
 use Rattle.base.specs.Limits.{longest_packet}
 use Rattle.packet.specs.Said.{put_kind, row_kind, report_kind, kind_of, view_of, present, next, entries_offset}
 use Rattle.packet.specs.declared.fault.PacketFault.{PacketFault}

@@ -8,7 +8,6 @@ use Rattle.rows.specs.declared.row.Row.{Row}
 pub use Rattle.rows.specs.Said.{Said, says_put, says_row, says_report}
 use Rattle.ticket.specs.Words.{word}
 use Rattle.ticket.specs.Writings.{writing_at}
-use Rattle.ticket.specs.declared.writing.Writing.{Writing}
 
 -- the first word of each kind of packet
 abbrev pub put_kind : ℕ

@@ -139,7 +139,7 @@ pub(crate) fn packet_fault<T: Ticket>(
     quorums: u32,
 ) -> Option<PacketFault>
     requires { (kind ≡ kind_of bytes.now) × (view ≡ view_of bytes.now) }
-    ensures { result ≡ questioned views refuses quorums bytes.now }
+    ensures { result ≡ questioned views T.refuses quorums bytes.now }
 {
     let length = length_fault(bytes.len());
     if length.is_some() {

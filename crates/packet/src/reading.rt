@@ -12,7 +12,7 @@ use ticket::Ticket;
 
 // Asks the questions of a packet, and opens it.
 fn read_open<'a, T: Ticket>(bytes: &'a [u8], quorums: u32) -> Result<Message<'a>, PacketFault>
-    ensures { MatchResult result (λ m. (questioned views refuses quorums bytes.now ≡ None) × (meaning m ≡ said_as bytes.now) × Borrows bytes.now m) (λ e. questioned views refuses quorums bytes.now ≡ Some e) }
+    ensures { MatchResult result (λ m. (questioned views T.refuses quorums bytes.now ≡ None) × (meaning m ≡ said_as bytes.now) × Borrows bytes.now m) (λ e. questioned views T.refuses quorums bytes.now ≡ Some e) }
 {
     let [k0, k1, k2, k3, v0, v1, v2, v3, rest @ ..] = bytes else {
         return Err(PacketFault::Length(bytes.len()));
@@ -37,7 +37,7 @@ fn read_open<'a, T: Ticket>(bytes: &'a [u8], quorums: u32) -> Result<Message<'a>
 
 // What a packet says, where tickets are of kind T and so many quorums are listed.
 pub fn read<'a, T: Ticket>(bytes: &'a [u8], quorums: u32) -> Result<Message<'a>, PacketFault>
-    ensures { MatchResult result (λ m. (packet_fault views refuses quorums bytes.now ≡ None) × (meaning m ≡ said_by bytes.now) × Borrows bytes.now m) (λ e. packet_fault views refuses quorums bytes.now ≡ Some e) }
+    ensures { MatchResult result (λ m. (packet_fault views T.refuses quorums bytes.now ≡ None) × (meaning m ≡ said_by bytes.now) × Borrows bytes.now m) (λ e. packet_fault views T.refuses quorums bytes.now ≡ Some e) }
 {
     read_open::<T>(bytes, quorums)
 }

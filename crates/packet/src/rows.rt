@@ -43,7 +43,7 @@ fn row_fault<T: Ticket>(
     quorums: u32,
 ) -> Option<PacketFault>
     requires { at + 20 < 2 ^ 64 }
-    ensures { result ≡ asks refuses quorums question bytes.now at }
+    ensures { result ≡ asks T.refuses quorums question bytes.now at }
 {
     let set = word_at(bytes, at + 16);
     match question {
@@ -76,7 +76,7 @@ fn entry_fault<T: Ticket>(
     quorums: u32,
 ) -> Option<PacketFault>
     requires { at + 28 < 2 ^ 64 }
-    ensures { result ≡ entry_fault (asks refuses quorums question bytes.now) bytes.now at }
+    ensures { result ≡ entry_fault (asks T.refuses quorums question bytes.now) bytes.now at }
 {
     if is_present(bytes, at) {
         row_fault::<T>(question, bytes, at + 4, quorums)
@@ -92,7 +92,7 @@ fn entries_fault<T: Ticket>(
     count: u32,
     quorums: u32,
 ) -> Option<PacketFault>
-    ensures { result ≡ entries_fault (asks refuses quorums question bytes.now) bytes.now count entries_offset }
+    ensures { result ≡ entries_fault (asks T.refuses quorums question bytes.now) bytes.now count entries_offset }
 {
     let mut at = ENTRIES_OFFSET;
     for _k in 0..count {
@@ -113,7 +113,7 @@ fn each_fault<T: Ticket>(
     bytes: &[u8],
     quorums: u32,
 ) -> Option<PacketFault>
-    ensures { result ≡ each_fault (asks refuses quorums question bytes.now) kind view bytes.now }
+    ensures { result ≡ each_fault (asks T.refuses quorums question bytes.now) kind view bytes.now }
 {
     if kind == REPORT {
         entries_fault::<T>(question, bytes, view, quorums)
@@ -129,7 +129,7 @@ pub(crate) fn rows_fault<T: Ticket>(
     bytes: &[u8],
     quorums: u32,
 ) -> Option<PacketFault>
-    ensures { result ≡ rows_fault refuses quorums kind view bytes.now }
+    ensures { result ≡ rows_fault T.refuses quorums kind view bytes.now }
 {
     let ticket = each_fault::<T>(Question::Ticket, kind, view, bytes, quorums);
     if ticket.is_some() || kind == PUT {

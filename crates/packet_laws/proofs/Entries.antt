@@ -1,18 +1,18 @@
 -- A report's entries, both ways.
-use Rattle.std.proofs.Common.{◌≡◌, ℕ, zero, suc, ◌+◌, ◌-◌, ◌*◌, ◌^◌, ◌<◌, ◌≤◌, Bool, true, false, cond, ◌&&◌, eqb, ltb, leb, ◌⊎◌, List, [], ◌∷◌, ◌++◌, length, get_or, drop, Some, None, Option, sym, refl, ap, ◌∙◌, subst, ap₂, inl, inr, arith, length-drop}
+use Rattle.std.proofs.Common.{◌≡◌, ℕ, zero, suc, ◌+◌, ◌-◌, ◌^◌, ◌<◌, ◌≤◌, Bool, true, false, cond, ◌&&◌, eqb, ltb, leb, List, [], ◌∷◌, ◌++◌, length, drop, Some, None, Option, sym, refl, ap, ◌∙◌, subst, ap₂, arith, length-drop}
 use native.Mathlib.Decide.{ℕ_discrete}
-use Rattle.std.proofs.lemmas.List.{drop-drop, length-append, drop_all, nil_from_length}
-use Rattle.std.proofs.lemmas.Bool.{eqb-true, eq-eqb, le-leb, leb-true, ne_eqb}
+use Rattle.std.proofs.lemmas.List.{drop_all}
+use Rattle.std.proofs.lemmas.Bool.{le-leb}
 use Rattle.std.proofs.lemmas.Bool.Decides.{nat_tests}
 use Rattle.packet.specs.Said.{row_at, present, next, entry_at, entries_at}
 use Rattle.packet.specs.Questions.{first, unless, ends_at, entry_shape, entries_shape, entry_fault, entries_fault, ticket_with, ticket_fault, set_fault, mark_fault, listed, mark_fits}
 use Rattle.packet.specs.declared.fault.PacketFault.{PacketFault}
-use Rattle.packet.specs.declared.fault.PacketFault.TheVariants.{Shape, Set, Mark}
+use Rattle.packet.specs.declared.fault.PacketFault.TheVariants.{Shape}
 use Rattle.rows.specs.declared.row.Row.{Row}
-use Rattle.packet_laws.specs.Within.{TicketWithin, RowWithin, EntryWithin, EntriesWithin}
+use Rattle.packet_laws.specs.Within.{RowWithin, EntryWithin, EntriesWithin}
 use Rattle.packet_write.specs.Writes.{row_bytes, entry_bytes, entries_bytes, mark_word}
 use Rattle.ticket.specs.Words.{be, word}
-use Rattle.ticket.specs.Writings.{bytes_of, writing_at, Words}
+use Rattle.ticket.specs.Writings.{Words}
 use Rattle.ticket.specs.declared.fault.TicketFault.{TicketFault}
 use Rattle.ticket.specs.declared.writing.Writing.{Writing}
 use Rattle.ticket.specs.InBytes.{Octets, word_drop}

@@ -1,28 +1,28 @@
 -- The laws of whole messages.
-use Rattle.std.proofs.Common.{◌≡◌, ℕ, zero, suc, ◌+◌, ◌-◌, ◌*◌, ◌%◌, ◌^◌, ◌<◌, ◌≤◌, Bool, true, false, cond, ◌&&◌, eqb, ltb, leb, List, [], ◌∷◌, ◌++◌, length, get_or, drop, Some, None, Ok, Err, Option, Result, sym, refl, ap, ◌∙◌, subst, ap₂, arith, length-drop, MatchResult}
+use Rattle.std.proofs.Common.{◌≡◌, ℕ, ◌+◌, ◌%◌, ◌^◌, ◌<◌, ◌≤◌, true, cond, ◌&&◌, eqb, ltb, leb, List, [], ◌++◌, length, drop, Some, None, Ok, Err, Option, Result, sym, refl, ap, ◌∙◌, subst, ap₂, arith, MatchResult}
 use native.Mathlib.Decide.{ℕ_discrete}
 use Rattle.base.specs.Limits.{views, longest_packet}
 use Rattle.packet.proofs.Walks.{entries_length}
 use Rattle.std.proofs.lemmas.List.{drop_all}
-use Rattle.std.proofs.lemmas.Bool.{eqb-true, eq-eqb, le-leb, leb-true, ne_eqb}
+use Rattle.std.proofs.lemmas.Bool.{eq-eqb, le-leb}
 use Rattle.std.proofs.lemmas.Bool.Decides.{nat_tests}
 use Rattle.packet.specs.declared.message.Message.{Message}
 use Rattle.packet.specs.declared.message.Message.TheVariants as messages
 use Rattle.packet.specs.Said.{Said, meaning, Borrows, says_put, says_row, says_report, kind_of, view_of, row_at, entries_at, said_by}
-use Rattle.packet.specs.Questions.{first, unless, length_fault, kind_fault, view_fault, count_fault, ends_at, shape_fault, entries_shape, entries_fault, each_fault, rows_fault, packet_fault, ticket_with, ticket_fault, set_fault, mark_fault}
+use Rattle.packet.specs.Questions.{first, unless, length_fault, kind_fault, view_fault, count_fault, shape_fault, rows_fault, packet_fault, ticket_with}
 use Rattle.packet.specs.declared.fault.PacketFault.{PacketFault}
-use Rattle.packet.specs.declared.fault.PacketFault.TheVariants.{View, Count, Shape, Length, Kind}
+use Rattle.packet.specs.declared.fault.PacketFault.TheVariants.{Shape}
 use Rattle.rows.specs.declared.row.Row.{Row}
-use Rattle.packet_laws.specs.Within.{TicketWithin, RowWithin, EntriesWithin, Within}
-use Rattle.packet_write.specs.Writes.{row_bytes, entry_bytes, entries_bytes, head_bytes, report_bytes, writing, written}
+use Rattle.packet_laws.specs.Within.{EntriesWithin, Within}
+use Rattle.packet_write.specs.Writes.{row_bytes, entries_bytes, report_bytes, writing, written}
 use Rattle.ticket.specs.Words.{be, word}
-use Rattle.ticket.specs.Writings.{bytes_of, writing_at, Words}
+use Rattle.ticket.specs.Writings.{bytes_of, writing_at}
 use Rattle.ticket.specs.declared.fault.TicketFault.{TicketFault}
 use Rattle.ticket.specs.declared.writing.Writing.{Writing}
 use Rattle.packet_write.proofs.Lengths.{entries_size}
 use Rattle.ticket.specs.InBytes.{Octets, word_of}
-use Rattle.packet_laws.proofs.Parts.{word_here, rest_here, ticket_here, row_here, word_stands, ticket_stands, row_stands, word_fits, ticket_words}
-use Rattle.packet_laws.proofs.Entries.{both_met, met_first, met_second, met, meets, Met, row_met, row_within, entries_there, entries_stand, entries_part, no_ticket}
+use Rattle.packet_laws.proofs.Parts.{ticket_here, row_here, word_stands, ticket_stands, row_stands, ticket_words}
+use Rattle.packet_laws.proofs.Entries.{both_met, met_first, met_second, met, meets, row_met, row_within, entries_there, entries_stand, entries_part, no_ticket}
 
 -- all the questions of a packet are met
 pub record AllMet (refuses : Writing → Option TicketFault) (quorums : ℕ) (k v : ℕ) (bs : List ℕ) : Type 0 where

@@ -14,7 +14,7 @@ use ticket::Ticket;
 
 // Reads a packet, with no more promised than `packet::read` does.
 fn read<'a, T: Ticket>(bytes: &'a [u8], quorums: u32) -> Result<Message<'a>, PacketFault>
-    ensures { MatchResult result (λ m. (packet_fault views refuses quorums bytes.now ≡ None) × (meaning m ≡ said_by bytes.now) × Borrows bytes.now m) (λ e. packet_fault views refuses quorums bytes.now ≡ Some e) }
+    ensures { MatchResult result (λ m. (packet_fault views T.refuses quorums bytes.now ≡ None) × (meaning m ≡ said_by bytes.now) × Borrows bytes.now m) (λ e. packet_fault views T.refuses quorums bytes.now ≡ Some e) }
 {
     packet::read::<T>(bytes, quorums)
 }
@@ -22,8 +22,8 @@ fn read<'a, T: Ticket>(bytes: &'a [u8], quorums: u32) -> Result<Message<'a>, Pac
 // Reads a packet. What a message within the bounds is written as gives that message back, and a packet is accepted
 // exactly if it is what some message within the bounds is written as.
 pub fn read_back<'a, T: Ticket>(bytes: &'a [u8], quorums: u32) -> Result<Message<'a>, PacketFault>
-    ensures back { (m : Said) → Within views refuses quorums m → writing m ≡ bytes.now → MatchResult result (λ x. meaning x ≡ m) (λ _. ⊥) }
-    ensures exactly { MatchResult result (λ x. Within views refuses quorums (meaning x) × (writing (meaning x) ≡ bytes.now)) (λ _. (m : Said) → Within views refuses quorums m → writing m ≢ bytes.now) }
+    ensures back { (m : Said) → Within views T.refuses quorums m → writing m ≡ bytes.now → MatchResult result (λ x. meaning x ≡ m) (λ _. ⊥) }
+    ensures exactly { MatchResult result (λ x. Within views T.refuses quorums (meaning x) × (writing (meaning x) ≡ bytes.now)) (λ _. (m : Said) → Within views T.refuses quorums m → writing m ≢ bytes.now) }
 {
     read::<T>(bytes, quorums)
 }
@@ -34,7 +34,7 @@ pub fn rewrite<T: Ticket>(
     quorums: u32,
     out: &mut [u8],
 ) -> Result<Option<usize>, PacketFault>
-    ensures { MatchResult result (λ n. (packet_fault views refuses quorums bytes.now ≡ None) × Wrote bytes.now out.old out.new n) (λ e. (packet_fault views refuses quorums bytes.now ≡ Some e) × (out.new ≡ out.old)) }
+    ensures { MatchResult result (λ n. (packet_fault views T.refuses quorums bytes.now ≡ None) × Wrote bytes.now out.old out.new n) (λ e. (packet_fault views T.refuses quorums bytes.now ≡ Some e) × (out.new ≡ out.old)) }
 {
     match read::<T>(bytes, quorums) {
         Ok(message) => Ok(write(message, out)),

@@ -1,7 +1,7 @@
 -- Bytes laid over others, one part after another.
-use Rattle.std.proofs.Common.{◌≡◌, ℕ, zero, suc, ◌+◌, ◌-◌, ◌<◌, ◌≤◌, List, [], ◌∷◌, ◌++◌, length, take, drop, Some, sym, refl, ap, ◌∙◌, ap₂, add-zero, add_assoc, zero-add, arith, length-drop}
+use Rattle.std.proofs.Common.{◌≡◌, ℕ, ◌+◌, ◌≤◌, List, [], ◌++◌, length, take, drop, Some, sym, refl, ap, ◌∙◌, ap₂, add-zero, add_assoc, zero-add, arith, length-drop}
 use borrow.Rule.Slice.PartMut.{put_mid}
-use Rattle.std.proofs.lemmas.List.{append_assoc, length-append, length-take-le, take_at, take-take, drop-drop, drop_at, take-append-le, drop-append-le, take_all, take-append-drop}
+use Rattle.std.proofs.lemmas.List.{append_assoc, length-append, length-take-le, take_at, drop-drop, drop_at, take-append-drop}
 use Rattle.packet.specs.Said.{report_kind}
 use Rattle.packet_write.specs.Writes.{over, head_bytes, report_bytes, Wrote}
 use Rattle.ticket.specs.Words.{be}

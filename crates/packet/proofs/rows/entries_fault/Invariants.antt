@@ -4,5 +4,5 @@ use Rattle.packet.proofs.rows.entries_fault.Given as goal
 
 abbrev pub invariant-loop-k : goal.invariant-loop-k
 invariant-loop-k g l =
-    (l.at ≤ 12 + 28 * l.-k)
-    × (entries_fault (asks g.T.Ticket.refuses l.quorums l.question l.bytes) l.bytes (l.count - l.-k) l.at ≡ entries_fault (asks g.T.Ticket.refuses l.quorums l.question l.bytes) l.bytes l.count 12)
+    (l.at ≤ 12 + 28 * l._k)
+    × (entries_fault (asks g.T.Ticket.refuses l.quorums l.question l.bytes) l.bytes (l.count - l._k) l.at ≡ entries_fault (asks g.T.Ticket.refuses l.quorums l.question l.bytes) l.bytes l.count 12)

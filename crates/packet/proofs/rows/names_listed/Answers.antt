@@ -1,4 +1,4 @@
-use Rattle.std.proofs.Common.{◌≡◌, eqb, ap, rules}
+use Rattle.std.proofs.Common.{eqb, ap, rules}
 use Rattle.std.proofs.lemmas.Bool.Decides.{Decides-at}
 use Rattle.packet.proofs.Sets.{listed_bits}
 use Rattle.packet.proofs.rows.names_listed.Goals as goal

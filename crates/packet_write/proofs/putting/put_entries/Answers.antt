@@ -1,5 +1,5 @@
-use Rattle.std.proofs.Common.{◌≡◌, ℕ, ◌+◌, ◌<◌, ◌≤◌, List, length, get_or, take, None, sym, refl, ap, ◌∙◌, arith}
-use Rattle.packet_write.specs.Writes.{entry_bytes, entries_bytes, over}
+use Rattle.std.proofs.Common.{ℕ, ◌+◌, ◌≤◌, List, length, sym, ap, ◌∙◌, arith}
+use Rattle.packet_write.specs.Writes.{entries_bytes, over}
 use Rattle.packet_write.proofs.Entries.{entries_none, entries_more, size_more, size_front, entries_all}
 use Rattle.packet_write.proofs.Over.{over_none, over_two}
 use Rattle.packet_write.proofs.putting.put_entries.Goals as goal

@@ -1,5 +1,4 @@
-use Rattle.std.proofs.Common.{◌≡◌, ℕ, ◌+◌, ◌≤◌, List, ◌++◌, length, Some, None, Option, sym, refl, ap, ◌∙◌, arith, rules}
-use Rattle.rows.specs.declared.row.Row.{Row}
+use Rattle.std.proofs.Common.{◌≡◌, ℕ, ◌+◌, ◌≤◌, List, ◌++◌, length, sym, refl, ap, ◌∙◌, arith}
 use Rattle.ticket.specs.Words.{be}
 use Rattle.packet_write.specs.Writes.{over, entry_bytes, row_bytes}
 use Rattle.packet_write.proofs.Over.{over_two}

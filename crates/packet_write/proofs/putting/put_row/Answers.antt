@@ -1,4 +1,4 @@
-use Rattle.std.proofs.Common.{◌≡◌, ℕ, ◌+◌, List, refl, ap, ◌∙◌, arith, rules}
+use Rattle.std.proofs.Common.{ℕ, ◌+◌, List, refl, ap, ◌∙◌, arith}
 use Rattle.ticket.specs.Words.{be}
 use Rattle.ticket.specs.Writings.{bytes_of}
 use Rattle.packet_write.specs.Writes.{over, mark_word}

@@ -1,4 +1,4 @@
-use Rattle.std.proofs.Common.{◌≡◌, ℕ, ◌+◌, List, length, refl, ap, arith}
+use Rattle.std.proofs.Common.{ℕ, List, length, ap, arith}
 use Rattle.packet_write.proofs.Over.{wrote_report}
 use Rattle.packet_write.proofs.writing.copy_report.Goals as goal
 

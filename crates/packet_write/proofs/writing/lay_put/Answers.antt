@@ -1,4 +1,4 @@
-use Rattle.std.proofs.Common.{◌≡◌, ℕ, List, refl, ap, ◌∙◌, arith}
+use Rattle.std.proofs.Common.{refl, ap, ◌∙◌, arith}
 use Rattle.ticket.specs.Writings.{bytes_of}
 use Rattle.packet.specs.Said.{put_kind}
 use Rattle.packet_write.specs.Writes.{head_bytes, over}

@@ -1,4 +1,4 @@
-use Rattle.std.proofs.Common.{◌≡◌, ◌+◌, ◌-◌, ◌≤◌, length, refl, arith, rules}
+use Rattle.std.proofs.Common.{◌-◌, ◌≤◌, length, refl, arith, rules}
 use Rattle.packet_write.specs.Writes.{entries_bytes}
 use Rattle.packet_write.proofs.Over.{wrote_report}
 use Rattle.packet_write.proofs.writing.lay_report.Goals as goal

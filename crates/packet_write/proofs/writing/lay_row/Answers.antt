@@ -1,4 +1,4 @@
-use Rattle.std.proofs.Common.{◌≡◌, refl, ap, ◌∙◌, arith}
+use Rattle.std.proofs.Common.{refl, ◌∙◌, arith}
 use Rattle.packet.specs.Said.{row_kind}
 use Rattle.packet_write.specs.Writes.{head_bytes, row_bytes}
 use Rattle.packet_write.proofs.Over.{over_two, over_front}
