@@ -10,9 +10,9 @@ returns-in-Some c =
     own_grows (table_of c.args.passed.now) (means c.args.unit.now) c.in-Some.row c.grow.new.row _ c.if-v-lt8.true c.in-Some.is c.grow.ensures
     (set-get_or c.args.unit.now.heard c.args.unit.now.view [])
 
-pub returns-in-default : goal.returns-in-default
-returns-in-default c =
-    own_stays (table_of c.args.passed.now) (means c.args.unit.now) _ c.if-v-lt8.true c.in-default.is (set-get_or c.args.unit.now.own c.args.unit.now.view None)
+pub returns-in_default : goal.returns-in_default
+returns-in_default c =
+    own_stays (table_of c.args.passed.now) (means c.args.unit.now) _ c.if-v-lt8.true c.in_default.is (set-get_or c.args.unit.now.own c.args.unit.now.view None)
 
 pub returns-else-v-lt8 : goal.returns-else-v-lt8
 returns-else-v-lt8 c = own_past (table_of c.args.passed.now) (means c.args.unit.now) (λ lt. omega arith)

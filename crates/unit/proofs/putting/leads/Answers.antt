@@ -4,8 +4,8 @@ use Rattle.std.proofs.Common.{arith}
 use native.Mathlib.Decide.{dec_lt}
 use Rattle.unit.proofs.putting.leads.Goals as goal
 
-pub nonzero-rem-result : goal.nonzero-rem-result
-nonzero-rem-result c =
+pub nonzero_rem-result : goal.nonzero_rem-result
+nonzero_rem-result c =
     let e = c.units.ensures in
     elim (dec_lt 0 c.units.result) [
       | yes l ↦ l
