@@ -1,29 +1,29 @@
 -- The agreement theorem from the invariant.
-use Rattle.std.proofs.Common.{◌≡◌, ℕ, zero, suc, ◌<◌, ◌≤◌, ◌⊎◌, length, get_or, Some, None, Option, sym, refl, ap, ◌∙◌, subst, inl, inr, arith}
+use Rattle.std.proofs.Common.{◌≡◌, ℕ, zero, suc, ◌<◌, length, get_or, Some, None, Option, sym, ◌∙◌, subst, inl, inr, arith}
 use mathlib.Core.List.{Memᴰ}
 use native.Mathlib.Decide.{dec_lt}
 use Rattle.sets.specs.Sets.{Has, Set, Bearable, Basic, Large, fault_at}
 use Rattle.sets.specs.Decisions.{has?}
 use Rattle.sets.proofs.Sides.{basic_more}
-use Rattle.table.specs.Tables.{QuorumTable, Proper, IsQuorum, In, class_of, Class1, Class12, Shared2, Shared3}
+use Rattle.table.specs.Tables.{QuorumTable, Proper, IsQuorum, In, Class1, Class12, Shared2, Shared3}
 use Rattle.ticket.specs.declared.writing.Writing.{Writing}
 use Rattle.rows.specs.declared.row.Row.{Row}
 use Rattle.rows.specs.declared.rule.Rule.{Rule}
 use Rattle.rows.specs.declared.rule.Rule.TheVariants as rules
 use Rattle.rows.specs.Rows.{Grid, cell, Holds, For, ForAt, ForFilled, ForMarked, Against, AgainstFilled}
-use Rattle.rows.specs.Rules.{Ranked, Needed}
+use Rattle.rows.specs.Rules.{Needed}
 use Rattle.rows.specs.Decided.{same?}
 use Rattle.rows.proofs.Facts.{holds_map, needs_ticket}
-use Rattle.choice.specs.Reports.{AllBut, BackedBy, Backed, Later, Barred, LiveIn, Live}
+use Rattle.choice.specs.Reports.{BackedBy, Backed, Later, Barred, Live}
 use Rattle.choice.specs.Chosen.{Chosen, choice_of}
 use Rattle.choice.specs.declared.choice.Choice.{Choice}
 use Rattle.choice.specs.declared.choice.Choice.TheVariants.{Free, Only, Torn}
 use Rattle.choice.proofs.Settles.{choice_of_live}
 use Rattle.growth.specs.Growth.{Entire, Spread, Met}
 use Rattle.unit.specs.declared.announcement.Announcement.{Announcement}
-use Rattle.unit.specs.States.{State, own_at, heard_at}
+use Rattle.unit.specs.States.{own_at, heard_at}
 use Rattle.unit.specs.Reported.{Allows, FullyReported, choice_at}
-use Rattle.life.specs.Lives.{Grows, Up, IfAny, FoundedRow, Grounded}
+use Rattle.life.specs.Lives.{IfAny, FoundedRow, Grounded}
 use Rattle.life.proofs.Ups.{Lasts, holds_up, for_lasts, filled_lasts, needed_lasts}
 use Rattle.agreement.specs.Runs.{Course, Sound}
 use Rattle.agreement.specs.Invariant.{NoneFalse, ChosenFrom, Invariant}

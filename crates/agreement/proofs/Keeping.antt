@@ -1,5 +1,5 @@
 -- Every accepted act keeps the invariant.
-use Rattle.std.proofs.Common.{◌≡◌, ℕ, zero, suc, ◌%◌, ◌<◌, ◌≤◌, Bool, true, false, ◌⊎◌, List, [], ◌∷◌, ◌++◌, map, length, get_or, set, replicate, Some, None, Option, sym, refl, ap, ◌∙◌, subst, inl, inr, mod-lt, arith, get_or-set_other, get_or-set_same}
+use Rattle.std.proofs.Common.{◌≡◌, ℕ, zero, suc, ◌%◌, ◌<◌, ◌≤◌, Bool, true, false, List, [], ◌∷◌, ◌++◌, map, length, get_or, set, replicate, Some, None, Option, sym, refl, ap, ◌∙◌, subst, inl, inr, mod-lt, arith, get_or-set_other, get_or-set_same}
 use mathlib.Core.List.Memᴰ
 use mathlib.Core.List.{Memᴰ}
 use native.Mathlib.Decide.{ℕ_discrete, dec_lt}
@@ -7,32 +7,31 @@ use Rattle.base.specs.Limits.{units_most}
 use Rattle.sets.specs.Sets.{Has}
 use Rattle.sets.specs.Decisions.{pick, both?, not?, if?, has?}
 use Rattle.sets.proofs.Bits.{none_has}
-use Rattle.table.specs.Tables.{QuorumTable, Proper, IsQuorum, In}
+use Rattle.table.specs.Tables.{QuorumTable, Proper, IsQuorum}
 use Rattle.ticket.specs.declared.writing.Writing.{Writing}
 use Rattle.rows.specs.declared.row.Row.{Row}
 use Rattle.rows.specs.Rows.{Grid, row_in, cell, Holds, For}
 use Rattle.rows.specs.Said.{Said, says_put, says_row, says_report}
-use Rattle.choice.specs.Chosen.{Chosen, choice_of}
+use Rattle.choice.specs.Chosen.{Chosen}
 use Rattle.choice.specs.Reports.{Live}
 use Rattle.choice.specs.declared.choice.Choice.{Choice}
 use Rattle.choice.specs.declared.choice.Choice.TheVariants.{Free, Only, Torn}
 use Rattle.choice.proofs.Settles.{choice_of_live, reports}
 use Rattle.growth.specs.Growth.{grown, least_rule}
-use Rattle.unit.specs.declared.announcement.Announcement.{Announcement}
 use Rattle.unit.specs.declared.fault.UnitFault.TheVariants as faults
-use Rattle.unit.specs.States.{State, own_at, heard_at, fresh_of, below}
-use Rattle.unit.specs.Reported.{Torn?, torn?, ticket_by, or_else, least?, FullyReported, fully?, choice_at, SomeAllows, deciding, by_deciding, put_ticket, filed, report_of, with_unit, same_rows?}
-use Rattle.unit.specs.Rules.{noted, with_cell, hear, with_own, grown_own, grow_own_in, grow_at_in, ruled, announced_or, with_announced, announce_in, on_row_in, on_put_in, on_raise_in, report_fault, on_report, on_own_put}
+use Rattle.unit.specs.States.{State, own_at, heard_at}
+use Rattle.unit.specs.Reported.{torn?, ticket_by, or_else, least?, FullyReported, fully?, choice_at, SomeAllows, deciding, by_deciding, put_ticket, filed, report_of, same_rows?}
+use Rattle.unit.specs.Rules.{noted, hear, with_own, grown_own, grow_own_in, grow_at_in, ruled, announced_or, with_announced, announce_in, on_row_in, on_put_in, on_raise_in, report_fault, on_report}
 use Rattle.unit.specs.Letters.{said_fault, said_done_in}
 use Rattle.unit.specs.declared.letter.Sends.{Sends}
 use Rattle.unit.specs.Sending.{only_if, put_said, row_said, report_said, outgoing}
 use Rattle.unit.specs.Acts.{Act, putting, raising, repeating, receiving, act_fault, act_done, act_sends}
 use Rattle.unit.proofs.Filing.{filed_at, below_kept}
 use Rattle.unit.proofs.Steps.{with_unit_is}
-use Rattle.life.specs.Lives.{Grows, Up, IfAny, Onward, Founded, Shaped}
+use Rattle.life.specs.Lives.{Grows, Up, IfAny, Onward, Founded}
 use Rattle.life.proofs.Ups.{some_none, set_cases, cell_cases, grows_same, up_same, up_then, holds_up, noted_least}
-use Rattle.life.proofs.Founding.{none_fresh, none_heard, act_goes, hear_goes, taken_goes, fresh_founded, PutTaken, put_taken}
-use Rattle.agreement.specs.Runs.{Sent, sent_by, Course, Sound, Came, MayHappen, handed_to, replaced, state_after, said_after, after, start, Run, begin, acts}
+use Rattle.life.proofs.Founding.{none_fresh, none_heard, act_goes, hear_goes, taken_goes, fresh_founded, put_taken}
+use Rattle.agreement.specs.Runs.{Sent, sent_by, Course, Sound, Came, MayHappen, handed_to, replaced, said_after, after, start, begin, acts}
 use Rattle.agreement.specs.Invariant.{NoneFalse, IfPut, TrueRows, ChosenFrom, IsSaid, Fit, Invariant}
 use Rattle.agreement.specs.Agreed.{RunsKeepTheInvariant}
 

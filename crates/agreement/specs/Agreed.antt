@@ -6,7 +6,7 @@ use Rattle.table.specs.Tables.{QuorumTable, Proper, IsQuorum, In}
 use Rattle.rows.specs.declared.row.Row.{Row}
 use Rattle.choice.specs.declared.choice.Choice.TheVariants.{Torn}
 use Rattle.unit.specs.declared.announcement.Announcement.{Announcement}
-use Rattle.unit.specs.States.{State, own_at}
+use Rattle.unit.specs.States.{own_at}
 use Rattle.unit.specs.Reported.{FullyReported, choice_at}
 use Rattle.agreement.specs.Runs.{Course, Sound, Run}
 use Rattle.agreement.specs.Invariant.{NoneFalse, Invariant}

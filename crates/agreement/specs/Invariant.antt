@@ -1,5 +1,5 @@
 -- What holds at every moment of a run, in parts; every accepted act keeps it.
-use Rattle.std.specs.Prelude.{◌≡◌, ℕ, ◌<◌, ◌≤◌, List, Some, None, Option}
+use Rattle.std.specs.Prelude.{◌≡◌, ℕ, ◌<◌, ◌≤◌, Some, None, Option}
 use mathlib.Core.List.{Memᴰ}
 use Rattle.sets.specs.Sets.{Has}
 use Rattle.table.specs.Tables.{QuorumTable, IsQuorum, In}
@@ -11,7 +11,7 @@ use Rattle.choice.specs.Chosen.{choice_of}
 use Rattle.unit.specs.States.{State, own_at, heard_at}
 use Rattle.unit.specs.Reported.{Allows}
 use Rattle.life.specs.Lives.{Grows, Up, IfAny, Founded}
-use Rattle.agreement.specs.Runs.{Sent, sent_by, Course, Sound}
+use Rattle.agreement.specs.Runs.{sent_by, Course, Sound}
 
 -- no unit is false
 abbrev pub NoneFalse : ℕ → Type 0

@@ -1,9 +1,8 @@
 -- Every accepted act keeps what a unit's state rests on, and goes on.
-use Rattle.std.proofs.Common.{◌≡◌, ℕ, zero, suc, ◌%◌, ◌<◌, ◌≤◌, Bool, true, false, ◌⊎◌, List, [], ◌∷◌, length, get_or, set, replicate, Some, None, Option, sym, refl, ap, ◌∙◌, subst, inl, inr, arith, length-set}
+use Rattle.std.proofs.Common.{◌≡◌, ℕ, zero, suc, ◌%◌, ◌<◌, true, false, List, [], length, get_or, replicate, Some, None, Option, sym, refl, ap, ◌∙◌, subst, inl, inr, arith, length-set}
 use native.Mathlib.Decide.{ℕ_discrete, dec_lt}
 use lib.ListN.{length-replicate}
 use Rattle.base.specs.Limits.{units_most}
-use Rattle.sets.specs.Sets.{Has}
 use Rattle.sets.specs.Decisions.{pick, if?}
 use Rattle.sets.proofs.Bits.{none_has, has_some}
 use Rattle.table.specs.Tables.{QuorumTable}
@@ -18,15 +17,15 @@ use Rattle.growth.proofs.Grown.{set_is, rule_least}
 use Rattle.unit.specs.declared.announcement.Announcement.{Announcement}
 use Rattle.unit.specs.States.{State, own_at, fresh_of, blank_of}
 use Rattle.unit.specs.Reported.{some_allows?, SomeAllows, filed}
-use Rattle.unit.specs.Rules.{noted, hear, with_own, grown_own, grow_own_in, grow_at_in, ruled, announced_or, with_announced, announce_in, on_row_in, no_row_there, put_fault, on_put_in, raise_fault_in, on_raise_in, on_report}
+use Rattle.unit.specs.Rules.{hear, with_own, grown_own, grow_own_in, grow_at_in, ruled, announced_or, with_announced, announce_in, on_row_in, no_row_there, put_fault, on_put_in, raise_fault_in, on_raise_in, on_report}
 use Rattle.rows.specs.Said.{Said, says_put, says_row, says_report}
 use Rattle.unit.specs.Letters.{said_fault, said_done_in}
 use Rattle.unit.specs.Acts.{Act, putting, raising, repeating, receiving, act_fault, act_done}
 use Rattle.unit.specs.declared.fault.UnitFault.TheVariants as faults
 use Rattle.unit.proofs.Filing.{length_filed, filed_at}
-use Rattle.life.specs.Lives.{Grows, Up, IfAny, Onward, FoundedRow, Grounded, Shaped, Founded, Life, begins, goes}
+use Rattle.life.specs.Lives.{Grows, Up, IfAny, Onward, FoundedRow, Grounded, Shaped, Founded, begins, goes}
 use Rattle.life.specs.Laws.{LivesAreFounded, RowsOnlyGrow}
-use Rattle.life.proofs.Ups.{some_none, set_cases, grows_same, up_same, up_is, up_then, HeardUp, any_founded_up, met_up, heard_up}
+use Rattle.life.proofs.Ups.{some_none, set_cases, up_same, up_is, up_then, any_founded_up, met_up, heard_up}
 use Rattle.life.proofs.Kept.{raised}
 
 -- a fresh unit has no row and has heard none

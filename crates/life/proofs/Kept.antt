@@ -11,7 +11,7 @@ use Rattle.unit.specs.States.{State, own_at}
 use Rattle.unit.specs.Rules.{with_own, grown_own, grow_own_in, grow_at_in, ruled, announced_or, with_announced, announce_in, hear, on_row_in, on_put_in, raise_fault_in}
 use Rattle.rows.specs.Said.{Said, says_put, says_row, says_report}
 use Rattle.unit.specs.Letters.{said_done_in}
-use Rattle.unit.specs.Acts.{Act, putting, raising, repeating, receiving}
+use Rattle.unit.specs.Acts.{putting, raising, repeating, receiving}
 use Rattle.unit.specs.declared.fault.UnitFault.TheVariants as faults
 use Rattle.life.specs.Laws.{OtherRowsStay, LettersKeepTheView}
 

@@ -1,6 +1,5 @@
 -- Rows that grow, lists after a write, and what lasts of what was heard.
 use Rattle.std.proofs.Common.{◌≡◌, ℕ, zero, suc, Bool, true, false, ◌||◌, ◌⊎◌, List, [], ◌∷◌, get_or, set, Some, None, Option, sym, refl, ap, ◌∙◌, subst, inl, inr, arith}
-use Rattle.sets.specs.Sets.{Has}
 use Rattle.sets.proofs.Bits.{or_has, has_or}
 use Rattle.table.specs.Tables.{QuorumTable}
 use Rattle.ticket.specs.declared.writing.Writing.{Writing}
@@ -9,7 +8,7 @@ use Rattle.rows.specs.declared.rule.Rule.{Rule}
 use Rattle.rows.specs.declared.rule.Rule.TheVariants as rules
 use Rattle.rows.specs.Rows.{Grid, row_in, cell, Holds, For, ForAt, ForFilled, ForMarked}
 use Rattle.rows.specs.Rules.{Needed}
-use Rattle.growth.specs.Growth.{Entire, Met, Spread}
+use Rattle.growth.specs.Growth.{Entire, Met}
 use Rattle.unit.specs.Rules.{joined, noted, with_cell}
 use Rattle.life.specs.Lives.{Grows, Up, IfAny, FoundedRow}
 

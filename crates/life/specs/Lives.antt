@@ -1,10 +1,10 @@
 -- The life of one unit: its acts, one after another, and what every state of it rests on.
-use Rattle.std.specs.Prelude.{◌≡◌, ℕ, ◌<◌, ◌≤◌, true, List, [], length, Some, None, Option, slice_index_or}
+use Rattle.std.specs.Prelude.{◌≡◌, ℕ, ◌<◌, ◌≤◌, true, [], length, Some, None, Option, slice_index_or}
 use Rattle.base.specs.Limits.{units_most}
 use Rattle.sets.specs.Sets.{Has}
 use Rattle.table.specs.Tables.{QuorumTable, IsQuorum}
 use Rattle.rows.specs.declared.row.Row.{Row}
-use Rattle.rows.specs.Rows.{Grid, cell, Holds, For, ForMarked, Filled}
+use Rattle.rows.specs.Rows.{Grid, cell, Holds, For, Filled}
 use Rattle.growth.specs.Growth.{Entire, Spread, Met}
 use Rattle.unit.specs.declared.announcement.Announcement.{Announcement}
 use Rattle.unit.specs.States.{State, own_at, fresh_of}
