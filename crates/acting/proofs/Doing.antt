@@ -9,6 +9,9 @@ use Rattle.growth.proofs.Entirely.{pick_yes, pick_no}
 use Rattle.unit.specs.States.{State, means, fresh}
 use Rattle.unit.specs.Acts.{Act, receiving, act_fault, act_done, act_sends}
 use Rattle.unit.specs.Sending.{repeats}
+use Rattle.unit.specs.Letters.{said_of, letter_fault, letter_done, letter_sends}
+use Rattle.unit.specs.declared.letter.Letter.{Letter}
+use Rattle.unit.specs.declared.letter.Letter.TheVariants as letters
 use Rattle.unit.specs.declared.state.ControlUnit.{ControlUnit}
 use Rattle.unit.specs.declared.fault.UnitFault.{UnitFault}
 use Rattle.unit.specs.declared.letter.Sends.{Sends}
@@ -23,6 +26,15 @@ abbrev pub Done : QuorumTable → ℕ → Act → State → State → Result Sen
 Done tb u act s t r =
     MatchResult r (λ sends. (act_fault views tb u act s ≡ None) × (t ≡ act_done views tb u act s) × (sends ≡ act_sends views tb u act s))
     (λ e. (act_fault views tb u act s ≡ Some e) × (t ≡ s))
+
+-- what a unit does with a letter is what it does with what the letter says
+pub letter_done_as_said : (tb : QuorumTable) (u x : ℕ) (letter : Letter) (s t : State) (r : Result Sends UnitFault)
+    → MatchResult r (λ sends. (letter_fault tb x letter s ≡ None) × (t ≡ letter_done tb x letter s) × (sends ≡ letter_sends tb x letter s))
+    (λ e. (letter_fault tb x letter s ≡ Some e) × (t ≡ s))
+    → Done tb u (receiving x (said_of letter)) s t r
+letter_done_as_said tb u x (letters.Put v w) s t r d = d
+letter_done_as_said tb u x (letters.Row v row) s t r d = d
+letter_done_as_said tb u x (letters.Report w rows) s t r d = d
 
 module _ (tb : QuorumTable) (u : ℕ) (act : Act) (us : List ControlUnit) (d new : ControlUnit) (h : u < length us) where
   by_state : (s : State) → state_at (states_of us) u ≡ s → (r : Result Sends UnitFault) → Done tb u act s (means new) r → Acted tb u act (states_of us) (states_of (set us u new)) r

@@ -9,5 +9,5 @@ use wire::Wire;
 
 // For every kind of ticket and every wire: what is promised holds after any calls.
 pub fn calls_agree<T: Ticket, W: Wire>(_wire: &W)
-    ensures { CallsAgree (ways written refuses rule) }
+    ensures { CallsAgree (ways T.written T.refuses W.rule) }
 {}
