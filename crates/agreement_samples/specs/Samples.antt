@@ -2,18 +2,15 @@
 use Rattle.std.specs.Prelude.{◌≡◌, ℕ, Bool, true, false, List, [], ◌∷◌, Some, None, Option}
 use Rattle.base.specs.Limits.{views}
 use Rattle.sets.specs.Sets.{Has, Bearable}
-use Rattle.table.specs.Tables.{QuorumTable, Proper}
-use Rattle.ticket.specs.declared.writing.Writing.{Writing}
-use Rattle.rows.specs.declared.row.Row.{Row}
+use Rattle.table.specs.Tables.{Proper}
 use Rattle.rows.specs.declared.rule.Rule.{Rule}
 use Rattle.rows.specs.declared.rule.Rule.TheVariants as rules
 use Rattle.rows.specs.Said.{Said, says_put, says_row, says_report}
 use Rattle.choice.specs.Samples.{four_units, A, B, says}
 use Rattle.choice.specs.declared.choice.Choice.TheVariants.{Torn}
 use Rattle.unit.specs.declared.announcement.Announcement.{Announcement}
-use Rattle.unit.specs.States.{State}
 use Rattle.unit.specs.Reported.{FullyReported, choice_at}
-use Rattle.unit.specs.Acts.{Act, putting, raising, repeating, receiving}
+use Rattle.unit.specs.Acts.{raising, receiving}
 use Rattle.agreement.specs.Runs.{Deed, deed, Sound, Run, worked}
 
 -- a row of view 0 with ticket A

@@ -1,15 +1,14 @@
 -- What an accepted call's questions tell.
-use Rattle.std.proofs.Common.{◌≡◌, ℕ, ◌<◌, ◌≤◌, length, Some, None, Option, refl}
+use Rattle.std.proofs.Common.{◌≡◌, ℕ, ◌≤◌, length, Some, None, Option, refl}
 use native.Mathlib.Decide.{ℕ_discrete, dec_le, dec_lt}
 use Rattle.sets.specs.Sets.{Has}
 use Rattle.sets.specs.Decisions.{pick, both?, has?}
 use Rattle.unit.specs.declared.fault.UnitFault.{UnitFault}
-use Rattle.packet.specs.declared.fault.PacketFault.{PacketFault}
 use Rattle.wire.specs.declared.fault.WireFault.{WireFault}
 use Rattle.calls.specs.declared.fault.ShedFault.{ShedFault}
 use Rattle.calls.specs.declared.fault.ShedFault.TheVariants as sheds
-use Rattle.calls.specs.Faults.{by_wire, by_packet, by_unit, or_else}
-use Rattle.calls.specs.Worlds.{World, Sound, ready, named, sound_side, false_side, asked, asked_named, asked_forged}
+use Rattle.calls.specs.Faults.{by_wire, by_unit, or_else}
+use Rattle.calls.specs.Worlds.{World, Sound, ready, named, sound_side, false_side, asked, asked_forged}
 use Rattle.life.proofs.Ups.{some_none}
 
 pub both_none : (a b : Option ShedFault) → or_else a b ≡ None → (a ≡ None) × (b ≡ None)

@@ -1,5 +1,5 @@
 -- What is promised of a shed, from the agreement of the rules.
-use Rattle.std.proofs.Common.{◌≡◌, ℕ, ◌<◌, ◌⊎◌, List, [], ◌∷◌, length, Some, None, Option, sym, refl, ap, ◌∙◌, subst, inl, inr, arith, lit<}
+use Rattle.std.proofs.Common.{◌≡◌, ℕ, ◌<◌, List, [], ◌∷◌, length, Some, None, Option, sym, refl, ap, ◌∙◌, subst, inl, inr, lit<}
 use mathlib.Core.List.{Memᴰ}
 use mathlib.Core.Logic.{∥∥₁_elim}
 use native.Mathlib.Decide.{dec_lt}
@@ -11,7 +11,6 @@ use Rattle.ticket.specs.declared.writing.Writing.{Writing}
 use Rattle.ticket.specs.Writings.{bytes_of}
 use Rattle.rows.specs.declared.row.Row.{Row}
 use Rattle.rows.specs.Decided.{same?}
-use Rattle.choice.specs.declared.choice.Choice.{Choice}
 use Rattle.choice.specs.declared.choice.Choice.TheVariants.{Torn}
 use Rattle.unit.specs.declared.announcement.Announcement.{Announcement}
 use Rattle.unit.specs.States.{State, own_at}

@@ -1,5 +1,5 @@
 -- A run of a shed's calls is a run of the rules: what waits was sent, and what a unit is handed was said.
-use Rattle.std.proofs.Common.{◌≡◌, ℕ, ◌<◌, ◌≤◌, ◌⊎◌, List, [], ◌∷◌, ◌++◌, map, length, get_or, set, replicate, Some, None, Ok, Err, Option, Result, sym, refl, ap, ◌∙◌, subst, inl, inr, append-nil, arith, length-set, get_or-set_other, get_or-set_same}
+use Rattle.std.proofs.Common.{◌≡◌, ℕ, ◌<◌, ◌≤◌, ◌⊎◌, List, [], ◌∷◌, ◌++◌, map, length, set, replicate, None, Ok, Err, Result, sym, refl, ap, ◌∙◌, subst, inl, inr, append-nil, arith, length-set, get_or-set_other, get_or-set_same}
 use mathlib.Core.List.{Memᴰ}
 use native.Mathlib.Decide.{ℕ_discrete}
 use Rattle.base.specs.Limits.{views, packet_bytes}
@@ -17,7 +17,6 @@ use Rattle.agreement.specs.Runs.{sent_by, Course, Came, MayHappen, handed_to, re
 use Rattle.agreement.specs.Runs as rules
 use Rattle.agreement.proofs.Keeping.{replaced_same, replaced_other}
 use Rattle.calls.specs.declared.fault.ShedFault.{ShedFault}
-use Rattle.calls.specs.Faults.{by_wire, by_packet, by_unit, or_else}
 use Rattle.calls.specs.Worlds.{World, world, unit_at, Sound, Made}
 use Rattle.calls.specs.Calls as call
 use Rattle.calls.specs.Calls.{Ways, Call, Answer, packet_said, handed, waiting_at, GoesOut, nothing, next, Acts, fault, Effect, Did}

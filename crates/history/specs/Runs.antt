@@ -1,6 +1,6 @@
 -- Runs of a shed: any calls, accepted or refused, each acting on what the earlier ones left.
-use Rattle.std.specs.Prelude.{ℕ, List, [], ◌∷◌, ◌++◌, Ok, Err, Result}
-use Rattle.unit.specs.Acts.{Act, putting, raising, repeating, receiving}
+use Rattle.std.specs.Prelude.{List, [], ◌∷◌, ◌++◌, Ok, Err, Result}
+use Rattle.unit.specs.Acts.{putting, raising, repeating, receiving}
 use Rattle.agreement.specs.Runs.{Deed, deed}
 use Rattle.calls.specs.declared.fault.ShedFault.{ShedFault}
 use Rattle.calls.specs.Worlds.{World, Made}
