@@ -1,5 +1,5 @@
 -- What one unit does, among several.
-use Rattle.std.proofs.Common.{◌≡◌, ℕ, ◌<◌, ◌≤◌, List, length, get_or, set, Some, None, Ok, Err, Result, sym, refl, ap, ◌∙◌, subst, arith, MatchResult}
+use Rattle.std.proofs.Common.{◌≡◌, ℕ, ◌<◌, ◌≤◌, List, length, get_or, set, Some, None, Ok, Err, Result, sym, ap, ◌∙◌, subst, arith, MatchResult}
 use native.Mathlib.Decide.{dec_lt}
 use Rattle.std.proofs.lemmas.List.{map-set, set-get_or}
 use Rattle.base.specs.Limits.{views}

@@ -24,7 +24,7 @@ use Rattle.calls.specs.declared.fault.ShedFault.{ShedFault}
 use Rattle.calls.specs.declared.fault.ShedFault.TheVariants as sheds
 pub use Rattle.calls.specs.declared.shown.Shown.{Shown}
 use Rattle.calls.specs.Faults.{by_wire, by_packet, by_ticket, by_unit, or_else}
-use Rattle.calls.specs.Worlds.{World, world, state_at, unit_at, asked, asked_named, asked_forged}
+use Rattle.calls.specs.Worlds.{World, world, unit_at, asked, asked_named, asked_forged}
 
 -- a kind of ticket and a wire, by what they mean
 pub record Ways (T : Type 0) : Type 1 where

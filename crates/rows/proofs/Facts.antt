@@ -1,5 +1,5 @@
 -- Facts on rows that hold.
-use Rattle.std.proofs.Common.{◌≡◌, ℕ, zero, suc, ◌<◌, List, [], ◌∷◌, length, get_or, Some, None, Option, subst, arith}
+use Rattle.std.proofs.Common.{◌≡◌, ℕ, zero, suc, ◌<◌, List, [], ◌∷◌, length, Some, None, Option, subst, arith}
 use Rattle.sets.specs.Sets.{Is}
 use Rattle.rows.specs.Rows.{Writing, Row, Test, row_in, Holds, For, Wanted}
 use Rattle.rows.specs.Rules.{Rule, Needed, test_of}

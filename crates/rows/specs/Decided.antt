@@ -3,7 +3,6 @@ use Rattle.std.specs.Prelude.{◌≡◌, ℕ, true, Some, None, Option}
 use Rattle.std.proofs.Common.{◌∙◌, ap}
 use Rattle.std.proofs.Math.Bool.{Bool-discrete}
 use Rattle.std.proofs.Math.Decide.{ℕ_discrete}
-use Rattle.sets.specs.Sets.{Has}
 use Rattle.sets.specs.Decisions.{both?, not?, as?, has?}
 use Rattle.sets.proofs.Bits.{has_some, some_not}
 use Rattle.rows.specs.Rows.{Writing, Row, Holds, For, ForAt, Filled, ForFilled, ForMarked, Against, AgainstFilled}

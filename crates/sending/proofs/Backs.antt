@@ -1,13 +1,13 @@
 -- A packet that is written says what was written, where each number fits its word.
-use Rattle.std.proofs.Common.{◌≡◌, ℕ, zero, suc, ◌+◌, ◌*◌, ◌^◌, ◌<◌, ◌≤◌, List, [], ◌∷◌, ◌++◌, length, get_or, take, drop, Some, None, Option, sym, refl, ap, ◌∙◌, subst, ap₂, suc-le-suc, zero-le, arith}
+use Rattle.std.proofs.Common.{◌≡◌, ℕ, zero, suc, ◌^◌, ◌<◌, ◌≤◌, List, [], ◌∷◌, length, get_or, take, drop, Some, None, Option, sym, refl, ap, ◌∙◌, ap₂, arith}
 use Rattle.base.specs.Limits.{views, packet_bytes}
 use Rattle.rows.specs.declared.row.Row.{Row}
-use Rattle.ticket.specs.Writings.{Words, writing_at}
+use Rattle.ticket.specs.Writings.{Words}
 use Rattle.ticket.specs.declared.writing.Writing.{Writing}
 use Rattle.ticket.specs.InBytes.{word_of}
-use Rattle.packet.specs.Said.{Said, says_put, says_row, says_report, said_by, view_of, row_at, entries_at, next, padded}
+use Rattle.packet.specs.Said.{says_put, says_row, says_report, said_by, entries_at, next, padded}
 use Rattle.packet_write.specs.Writes.{entries_bytes, writing}
-use Rattle.packet_write.proofs.Lengths.{put_length, row_length, report_length}
+use Rattle.packet_write.proofs.Lengths.{report_length}
 use Rattle.packet_laws.proofs.Parts.{ticket_here, row_here}
 use Rattle.packet_laws.proofs.Entries.{stands_none, stands_row}
 use Rattle.unit.specs.States.{below}

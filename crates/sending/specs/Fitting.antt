@@ -1,5 +1,5 @@
 -- Rows whose numbers fit their words.
-use Rattle.std.specs.Prelude.{ℕ, ◌^◌, ◌<◌, Some, None, Option}
+use Rattle.std.specs.Prelude.{◌^◌, ◌<◌, Some, None, Option}
 use Rattle.rows.specs.declared.row.Row.{Row}
 use Rattle.ticket.specs.Writings.{Words}
 

@@ -1,6 +1,6 @@
 -- Words and writings in bytes, both ways.
-use Rattle.std.specs.Prelude.{◌≡◌, ℕ, zero, suc, ◌+◌, ◌*◌, ◌/◌, ◌%◌, ◌^◌, ◌<◌, ◌≤◌, List, [], ◌∷◌, ◌++◌, length, drop, slice_index, refl}
-use Rattle.std.proofs.Common.{sym, ap, ap₂, ◌∙◌, arith, add-zero, add_assoc, drop-cons, get_or-drop}
+use Rattle.std.specs.Prelude.{◌≡◌, ℕ, zero, suc, ◌+◌, ◌*◌, ◌/◌, ◌%◌, ◌^◌, ◌<◌, ◌≤◌, List, [], ◌∷◌, ◌++◌, length, drop, slice_index}
+use Rattle.std.proofs.Common.{sym, ap, ap₂, ◌∙◌, arith, add_assoc, drop-cons, get_or-drop}
 use Rattle.std.proofs.lemmas.List.{drop_all, get_or_past}
 use Rattle.ticket.specs.Words.{be, word}
 use Rattle.ticket.specs.Writings.{bytes_of, writing_of, Words}

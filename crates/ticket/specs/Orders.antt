@@ -1,5 +1,5 @@
 -- Piece orders: how one is written, and which writings are orders.
-use Rattle.std.specs.Prelude.{ℕ, Bool, false, cond, ◌&&◌, Option, ◌==◌}
+use Rattle.std.specs.Prelude.{ℕ, Bool, false, cond, Option, ◌==◌}
 use Rattle.ticket.specs.Bounds.{looms_fit, picks_fit}
 use Rattle.ticket.specs.Faults.{judged}
 use Rattle.ticket.specs.declared.fault.TicketFault.{TicketFault}

@@ -1,5 +1,5 @@
 -- Plans: how one is written, and which writings are plans.
-use Rattle.std.specs.Prelude.{Bool, true, false, ◌&&◌, Some, None, Option}
+use Rattle.std.specs.Prelude.{Bool, ◌&&◌, Option}
 use Rattle.ticket.specs.Bounds.{ends_fit, picks_fit}
 use Rattle.ticket.specs.Faults.{judged}
 use Rattle.ticket.specs.declared.fault.TicketFault.{TicketFault}

@@ -1,5 +1,5 @@
 -- Rows only grow: what the own row's set names was heard entire, and what was heard is never lost.
-use Rattle.std.proofs.Common.{◌≡◌, ℕ, zero, suc, ◌%◌, ◌<◌, ◌≤◌, Bool, true, false, ◌⊎◌, List, [], ◌∷◌, length, get_or, set, replicate, Some, None, Option, sym, refl, ap, ◌∙◌, subst, inl, inr, arith}
+use Rattle.std.proofs.Common.{◌≡◌, ℕ, zero, suc, ◌%◌, ◌<◌, Bool, true, false, ◌⊎◌, List, [], ◌∷◌, get_or, set, replicate, Some, None, Option, sym, refl, ap, ◌∙◌, subst, inl, inr, arith}
 use native.Mathlib.Decide.{ℕ_discrete, dec_lt}
 use Rattle.base.specs.Limits.{views}
 use Rattle.sets.specs.Sets.{Has}
@@ -11,15 +11,14 @@ use Rattle.rows.specs.declared.row.Row.{Row}
 use Rattle.rows.specs.Rows.{Grid, row_in, cell, Holds, For}
 use Rattle.growth.specs.Growth.{Entire, mark?, grown, least_rule}
 use Rattle.growth.proofs.Grown.{set_is}
-use Rattle.unit.specs.States.{State, own_at, fresh}
+use Rattle.unit.specs.States.{State, own_at}
 use Rattle.unit.specs.Reported.{some_allows?}
-use Rattle.unit.specs.Rules.{noted, with_cell, hear, with_own, grown_own, grow_own, grow_at, ruled, announced_or, with_announced, announce, on_row, no_row_there, put_fault, on_put, raise_fault, on_raise}
+use Rattle.unit.specs.Rules.{noted, with_cell, hear, with_own, grown_own, grow_own, grow_at, ruled, announced_or, with_announced, announce, on_row, no_row_there, put_fault, on_put}
 use Rattle.unit.specs.Letters.{Letter, letter_fault, letter_done}
 use Rattle.unit.specs.declared.letter.Letter.TheVariants as letters
-use Rattle.unit.specs.declared.fault.UnitFault.{UnitFault}
 use Rattle.unit.specs.declared.fault.UnitFault.TheVariants as faults
 use Rattle.unit.specs.Laws.{Grows, Life, starts, receives, puts, raises, RowsOnlyGrow}
-use Rattle.unit.proofs.Kept.{Keeps, letter_keeps, raised}
+use Rattle.unit.proofs.Kept.{letter_keeps, raised}
 
 all_none : (n v : ℕ) → row_in (replicate n None) v ≡ None
 all_none zero v = refl

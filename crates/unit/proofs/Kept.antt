@@ -1,5 +1,5 @@
 -- What the rules leave as it was.
-use Rattle.std.proofs.Common.{◌≡◌, ℕ, ◌<◌, ◌≢◌, Some, None, Option, sym, refl, ap, ◌∙◌, arith, get_or-set_other}
+use Rattle.std.proofs.Common.{◌≡◌, ℕ, ◌<◌, Some, None, Option, refl, ◌∙◌, arith, get_or-set_other}
 use native.Mathlib.Decide.{ℕ_discrete, dec_lt}
 use Rattle.base.specs.Limits.{views}
 use Rattle.sets.specs.Decisions.{pick, both?}
@@ -12,9 +12,8 @@ use Rattle.unit.specs.States.{State, own_at}
 use Rattle.unit.specs.Rules.{with_own, grown_own, grow_own, grow_at, ruled, announced_or, with_announced, announce, hear, on_row, on_put, raise_fault}
 use Rattle.unit.specs.Letters.{Letter, letter_done}
 use Rattle.unit.specs.declared.letter.Letter.TheVariants as letters
-use Rattle.unit.specs.declared.fault.UnitFault.{UnitFault}
 use Rattle.unit.specs.declared.fault.UnitFault.TheVariants as faults
-use Rattle.unit.specs.Laws.{LetterKeeps, ActionKeeps, LeftRowsStay}
+use Rattle.unit.specs.Laws.{LeftRowsStay}
 
 -- the view and the other own rows stay
 abbrev pub Keeps : State → State → Type 0

@@ -1,5 +1,5 @@
 -- The rules, case by case.
-use Rattle.std.proofs.Common.{◌≡◌, ℕ, zero, suc, ◌^◌, ◌<◌, ◌≤◌, Bool, true, false, cond, not, eqb, ◌⊎◌, List, [], ◌∷◌, length, get_or, set, Some, None, Option, sym, refl, ap, ◌∙◌, subst, inl, inr, arith}
+use Rattle.std.proofs.Common.{◌≡◌, ℕ, zero, suc, ◌^◌, ◌<◌, Bool, true, false, cond, not, eqb, ◌⊎◌, List, set, Some, None, Option, sym, refl, ap, ◌∙◌, subst, inl, inr, arith}
 use native.Mathlib.Decide.{ℕ_discrete, dec_lt}
 use lib.Bits.{bit_or}
 use Rattle.base.specs.Limits.{views, units_most}
@@ -19,7 +19,6 @@ use Rattle.unit.specs.Reported.{or_else, least?, with_unit, same_said?}
 use Rattle.unit.specs.Sending.{sends_row, sends_nothing}
 use Rattle.unit.specs.Letters.{stage_of, sends_changed}
 use Rattle.unit.specs.declared.stage.Stage.TheVariants as stages
-use Rattle.unit.specs.declared.fault.UnitFault.{UnitFault}
 use Rattle.unit.specs.declared.fault.UnitFault.TheVariants as faults
 
 abbrev pub state_of : ℕ → List (Option Row) → Option Writing → Grid → ℕ → Grid → Option Announcement → State

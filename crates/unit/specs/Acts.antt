@@ -1,5 +1,5 @@
 -- What a unit does, one act at a time: the rules under one name each for their refusal, their state and what goes out.
-use Rattle.std.specs.Prelude.{ℕ, Some, None, Option}
+use Rattle.std.specs.Prelude.{ℕ, None, Option}
 use Rattle.table.specs.Tables.{QuorumTable}
 use Rattle.ticket.specs.declared.writing.Writing.{Writing}
 use Rattle.unit.specs.States.{State}

@@ -1,5 +1,5 @@
 -- What an arriving letter does.
-use Rattle.std.specs.Prelude.{ℕ, Bool, true, false, cond, not, List, Some, None, Option, ◌==◌}
+use Rattle.std.specs.Prelude.{ℕ, cond, not, Some, None, Option, ◌==◌}
 use Rattle.sets.specs.Decisions.{pick}
 use Rattle.table.specs.Tables.{QuorumTable}
 use Rattle.rows.specs.declared.row.Row.{Row}

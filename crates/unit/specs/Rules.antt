@@ -1,5 +1,5 @@
 -- The rules of a unit, each a function on its state.
-use Rattle.std.specs.Prelude.{◌≡◌, ℕ, ◌%◌, ◌^◌, ◌<◌, Bool, true, false, not, ◌||◌, ◌⊎◌, List, [], ◌∷◌, map, set, Some, None, Option, bit_or, slice_index_or, slice_set}
+use Rattle.std.specs.Prelude.{ℕ, ◌%◌, false, ◌||◌, List, [], Some, None, Option, bit_or, slice_index_or, slice_set}
 use Rattle.std.proofs.Math.Decide.{ℕ_discrete, dec_lt}
 use Rattle.base.specs.Limits.{views}
 use Rattle.sets.specs.Decisions.{pick, both?, if?, has?}

@@ -1,5 +1,5 @@
 -- The state of a control unit: what a unit means.
-use Rattle.std.specs.Prelude.{ℕ, zero, suc, List, [], ◌∷◌, replicate, Some, None, Option}
+use Rattle.std.specs.Prelude.{ℕ, zero, suc, List, [], ◌∷◌, replicate, None, Option}
 use Rattle.base.specs.Limits.{views, units_most}
 use Rattle.ticket.specs.declared.writing.Writing.{Writing}
 use Rattle.rows.specs.declared.row.Row.{Row}

@@ -1,1 +1,0 @@
-use Rattle.acting.proofs.reading.quorum_count.Goals as goal

@@ -1,7 +1,6 @@
-use Rattle.std.proofs.Common.{◌≡◌, sym, refl, ap, ◌∙◌, ap₂}
+use Rattle.std.proofs.Common.{ap₂}
 use Rattle.table.specs.Means.{means as table_of}
 use Rattle.packet.specs.Said.{says_report}
-use Rattle.unit.specs.Letters.{said_of}
 use Rattle.acting.specs.Acted.{reported}
 use Rattle.calls.specs.Worlds.{states_of}
 use Rattle.acting.proofs.Doing.{acted_as}

@@ -1,7 +1,7 @@
 -- A passed table is proper, so it has few units.
 use mathlib.Core.HLevel.{⊥_prop}
 use mathlib.Core.Logic.{∥∥₁_elim}
-use Rattle.std.proofs.Common.{◌≤◌, arith}
+use Rattle.std.proofs.Common.{arith}
 use native.Mathlib.Decide.{dec_le}
 use Rattle.calls.proofs.asks.unit_count.Goals as goal
 

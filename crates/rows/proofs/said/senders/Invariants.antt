@@ -1,4 +1,4 @@
-use Rattle.std.proofs.Common.{ℕ, ◌<◌}
+use Rattle.std.proofs.Common.{◌<◌}
 use Rattle.sets.specs.Sets.{Is}
 use Rattle.rows.specs.Rows.{row_in, Holds, Wanted}
 use Rattle.rows.proofs.said.senders.Given as goal

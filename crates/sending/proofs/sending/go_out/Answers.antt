@@ -1,4 +1,4 @@
-use Rattle.std.proofs.Common.{◌≡◌, ◌<◌, length, get_or, sym, ap, subst, arith}
+use Rattle.std.proofs.Common.{◌<◌, length, sym, subst, arith}
 use Rattle.base.specs.Limits.{views}
 use Rattle.unit.specs.States.{State}
 use Rattle.unit.specs.Sending.{outgoing}

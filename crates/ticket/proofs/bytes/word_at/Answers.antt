@@ -1,4 +1,4 @@
-use Rattle.std.proofs.Common.{ℕ, List, sym, ap, ◌∙◌, add-zero, arith, rules}
+use Rattle.std.proofs.Common.{ℕ, List, sym, ap, ◌∙◌, add-zero, arith}
 use Rattle.std.proofs.lemmas.List.{take_rest}
 use Rattle.ticket.specs.Words.{word}
 use Rattle.ticket.specs.InBytes.{word_past, word_drop}

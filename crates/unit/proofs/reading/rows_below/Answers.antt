@@ -1,4 +1,4 @@
-use Rattle.std.proofs.Common.{◌≡◌, List, length, None, Option, sym, ap, ◌∙◌, subst, arith, length-set}
+use Rattle.std.proofs.Common.{List, length, None, Option, ap, ◌∙◌, arith, length-set}
 use Rattle.rows.specs.declared.row.Row.{Row}
 use Rattle.rows.specs.Rows.{row_in}
 use Rattle.unit.specs.States.{below}

@@ -1,4 +1,4 @@
-use Rattle.std.proofs.Common.{◌≡◌, ℕ, length, arith, below_more}
+use Rattle.std.proofs.Common.{ℕ, length, arith, below_more}
 use Rattle.std.proofs.lemmas.Bool.Decides.{not_from_Decides}
 use Rattle.sets.specs.Decisions.{both?, not?}
 use Rattle.table.specs.Means.{means as table_of}

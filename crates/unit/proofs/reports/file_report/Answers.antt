@@ -1,4 +1,4 @@
-use Rattle.std.proofs.Common.{◌≡◌, [], sym, ◌∙◌, arith}
+use Rattle.std.proofs.Common.{[], sym, ◌∙◌, arith}
 use Rattle.unit.specs.Reported.{filed}
 use Rattle.unit.proofs.Filing.{same_elements, length_filed, filed_at}
 use Rattle.unit.proofs.reports.file_report.Goals as goal

@@ -1,4 +1,4 @@
-use Rattle.std.proofs.Common.{◌≡◌, List, None, Option, sym, ap, ◌∙◌, arith}
+use Rattle.std.proofs.Common.{List, None, Option, sym, ap, ◌∙◌, arith}
 use Rattle.std.proofs.lemmas.Bool.Decides.{not_from_Decides}
 use Rattle.sets.proofs.Sides.{decides_yes, decides_no}
 use Rattle.rows.specs.declared.row.Row.{Row}

@@ -1,4 +1,3 @@
-use Rattle.std.proofs.Common.{◌≡◌}
 use Rattle.calls.specs.Calls.{ways}
 use Rattle.history.proofs.Steps.{answers_agree}
 use Rattle.shed.specs.Means.{world_of}
