@@ -5,8 +5,8 @@ use Rattle.base.specs.Limits.{longest_packet}
 use Rattle.packet.specs.Said.{put_kind, row_kind, report_kind, kind_of, view_of, present, next, entries_offset}
 use Rattle.packet.specs.declared.fault.PacketFault.{PacketFault}
 use Rattle.packet.specs.declared.fault.PacketFault.TheVariants.{Length, Kind, View, Count, Shape, Ticket, Set, Mark}
-use Rattle.packet.specs.declared.rows.Question.{Question}
-use Rattle.packet.specs.declared.rows.Question.TheVariants as questions
+use Rattle.packet.specs.declared.row_questions.Question.{Question}
+use Rattle.packet.specs.declared.row_questions.Question.TheVariants as questions
 use Rattle.ticket.specs.Words.{word}
 use Rattle.ticket.specs.Writings.{writing_at}
 use Rattle.ticket.specs.declared.fault.TicketFault.{TicketFault}

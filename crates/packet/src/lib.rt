@@ -6,11 +6,11 @@ mod message;
 mod questions;
 mod reading;
 mod report;
-mod rows;
+mod row_questions;
 mod words;
 
 pub use fault::PacketFault;
 pub use message::{ENTRIES_OFFSET, Message, Report};
 pub use questions::{PUT, REPORT, ROW};
 pub use reading::read;
-pub use rows::names_listed;
+pub use row_questions::names_listed;

@@ -6,7 +6,7 @@ ghost use Rattle.packet.specs.Said.{kind_of, view_of, entries_offset};
 
 use crate::fault::PacketFault;
 use crate::message::ENTRIES_OFFSET;
-use crate::rows::rows_fault;
+use crate::row_questions::rows_fault;
 use crate::words::next_entry;
 use base::{PACKET_BYTES, VIEWS};
 use ticket::{Ticket, word_at};

@@ -1,7 +1,7 @@
 use Rattle.std.proofs.Common.{sym, ◌∙◌, arith}
 use Rattle.packet.specs.Questions.{asks}
 use Rattle.packet.proofs.Walks.{next_low, walk_goes, walk_stops, fault_walk, fault_end}
-use Rattle.packet.proofs.rows.entries_fault.Goals as goal
+use Rattle.packet.proofs.row_questions.entries_fault.Goals as goal
 
 pub entry_fault-fault-requires : goal.entry_fault-fault-requires
 entry_fault-fault-requires g c = omega arith

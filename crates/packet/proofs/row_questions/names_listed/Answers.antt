@@ -1,7 +1,7 @@
 use Rattle.std.proofs.Common.{eqb, ap, rules}
 use Rattle.std.proofs.lemmas.Bool.Decides.{Decides-at}
 use Rattle.packet.proofs.Sets.{listed_bits}
-use Rattle.packet.proofs.rows.names_listed.Goals as goal
+use Rattle.packet.proofs.row_questions.names_listed.Goals as goal
 
 pub returns : goal.returns
 returns c =

@@ -1,6 +1,6 @@
 use Rattle.std.proofs.Common.{◌≡◌, ◌+◌, ◌-◌, ◌*◌, ◌≤◌}
 use Rattle.packet.specs.Questions.{asks, entries_fault}
-use Rattle.packet.proofs.rows.entries_fault.Given as goal
+use Rattle.packet.proofs.row_questions.entries_fault.Given as goal
 
 abbrev pub invariant-loop-k : goal.invariant-loop-k
 invariant-loop-k g l =
