@@ -11,8 +11,8 @@ loop-place-preserved g c =
     then (ways g.T.Ticket.written g.T.Ticket.refuses g.W.Wire.rule) (world_of g.W.Wire.means c.args.shed.now) (world_of g.W.Wire.means c.loop-place.shed)
     (world_of g.W.Wire.means c.deliver.new.shed) c.loop-place.invariant c.deliver.ensures
 
-pub returns-in-err-deliver : goal.returns-in-err-deliver
-returns-in-err-deliver g c =
+pub returns-in_err-deliver : goal.returns-in_err-deliver
+returns-in_err-deliver g c =
     then (ways g.T.Ticket.written g.T.Ticket.refuses g.W.Wire.rule) (world_of g.W.Wire.means c.args.shed.now) (world_of g.W.Wire.means c.loop-place.shed)
     (world_of g.W.Wire.means c.deliver.new.shed) c.loop-place.invariant c.deliver.ensures
 

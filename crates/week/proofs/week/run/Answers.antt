@@ -11,8 +11,8 @@ loop-step-preserved g c =
     then (ways g.T.Ticket.written g.T.Ticket.refuses g.W.Wire.rule) (world_of g.W.Wire.means c.args.shed.now) (world_of g.W.Wire.means c.loop-step.shed)
     (world_of g.W.Wire.means c.act.new.shed) c.loop-step.invariant c.act.ensures
 
-pub returns-in-err-act : goal.returns-in-err-act
-returns-in-err-act g c =
+pub returns-in_err-act : goal.returns-in_err-act
+returns-in_err-act g c =
     then (ways g.T.Ticket.written g.T.Ticket.refuses g.W.Wire.rule) (world_of g.W.Wire.means c.args.shed.now) (world_of g.W.Wire.means c.loop-step.shed)
     (world_of g.W.Wire.means c.act.new.shed) c.loop-step.invariant c.act.ensures
 
