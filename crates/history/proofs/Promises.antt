@@ -1,5 +1,6 @@
 -- What is promised of a shed, from the agreement of the rules.
 use Rattle.std.proofs.Common.{◌≡◌, ℕ, ◌<◌, List, [], ◌∷◌, length, Some, None, Option, sym, refl, ap, ◌∙◌, subst, inl, inr, lit<}
+use mathlib.Core.List.Memᴰ
 use mathlib.Core.List.{Memᴰ}
 use mathlib.Core.Logic.{∥∥₁_elim}
 use native.Mathlib.Decide.{dec_lt}
@@ -32,12 +33,12 @@ use Rattle.history.proofs.Told.{Told, run_tells}
 
 -- a ticket is in a list or not
 mem? : (t : Writing) (l : List Writing) → Dec (Memᴰ t l)
-mem? t [] = no (λ k. mathlib.Core.List.Memᴰ.not-nil k)
+mem? t [] = no (λ k. Memᴰ.not-nil k)
 mem? t (x ∷ l) = elim (same? t x) [
-  | yes e ↦ yes (mathlib.Core.List.Memᴰ.head e)
+  | yes e ↦ yes (Memᴰ.head e)
   | no ne ↦ elim (mem? t l) [
-    | yes k ↦ yes (mathlib.Core.List.Memᴰ.tail k)
-    | no nk ↦ no (λ k. elim (mathlib.Core.List.Memᴰ.cases_cons k) [ inl e ↦ ne e | inr i ↦ nk i ])
+    | yes k ↦ yes (Memᴰ.tail k)
+    | no nk ↦ no (λ k. elim (Memᴰ.cases_cons k) [ inl e ↦ ne e | inr i ↦ nk i ])
   ]
 ]
 
@@ -98,7 +99,7 @@ module _ {T : Type 0} (y : Ways T) (apart : (s t : T) → bytes_of (y.written s)
       let i : Memᴰ a.ticket now.handed =
       certain (mem? a.ticket now.handed) told.proper (λ p. (agreed p).announced_was_handed none u a su (announced_now u a su e)) in
       let (z, j, h) = told.handed_in a.ticket i in
-      mathlib.Core.List.Memᴰ.cast (is_one s.ticket z (t ∙ sym h)) j
+      Memᴰ.cast (is_one s.ticket z (t ∙ sym h)) j
 
   later_keeps : (u x v : ℕ) (a : Announcement) (r : Row) → Sound w u → Sound w x
       → (unit_at w u).announced ≡ Some a → a.view < v → own_at (unit_at w x) v ≡ Some r → r.ticket ≡ a.ticket

@@ -1,5 +1,6 @@
 -- A run of a shed's calls is a run of the rules: what waits was sent, and what a unit is handed was said.
 use Rattle.std.proofs.Common.{◌≡◌, ℕ, ◌<◌, ◌≤◌, ◌⊎◌, List, [], ◌∷◌, ◌++◌, map, length, set, replicate, None, Ok, Err, Result, sym, refl, ap, ◌∙◌, subst, inl, inr, append-nil, arith, length-set, get_or-set_other, get_or-set_same}
+use mathlib.Core.List.Memᴰ
 use mathlib.Core.List.{Memᴰ}
 use native.Mathlib.Decide.{ℕ_discrete}
 use Rattle.base.specs.Limits.{views, packet_bytes}
@@ -48,9 +49,9 @@ goes_in rule n from ms a b laid lost (next {m = m} {ms = rest} {b = mid} {tally 
     elim (goes_in rule n from rest mid b x z more u p h) [
       | inl k ↦ elim (sent_in rule from (packet_said m) a n mid tally.laid tally.lost sent.chain u p k) [
         | inl i ↦ inl i
-        | inr i ↦ inr (m, mathlib.Core.List.Memᴰ.head refl, i.1, says)
+        | inr i ↦ inr (m, Memᴰ.head refl, i.1, says)
       ]
-      | inr k ↦ inr (k.0, mathlib.Core.List.Memᴰ.tail k.1, k.2, k.3)
+      | inr k ↦ inr (k.0, Memᴰ.tail k.1, k.2, k.3)
     ]
 
 goes_served : (rule : Rule) (n from : ℕ) (ms : List Said) (a b : Meaning) (laid lost : ℕ) → GoesOut rule n from ms a b laid lost → b.served ≡ a.served
@@ -87,7 +88,7 @@ module _ {T : Type 0} (y : Ways T) where
     ]
 
     old_sent : (p : Parcel) → WasSent c p → WasSent then p
-    old_sent p (said, k, e, h) = (said, mathlib.Core.List.Memᴰ.append_right (map (sent_by u) (said_after views a.table c u act)) k, e, h)
+    old_sent p (said, k, e, h) = (said, Memᴰ.append_right (map (sent_by u) (said_after views a.table c u act)) k, e, h)
 
     now_sent : (p : Parcel) (said : Said) → Memᴰ said (outgoing (act_sends views a.table u act (unit_at a u)) (act_done views a.table u act (unit_at a u)))
         → p ≡ parcel u (packet_said said) → handed (packet_said said) ≡ said → WasSent then p
@@ -96,7 +97,7 @@ module _ {T : Type 0} (y : Ways T) where
         subst (λ (z : State). Memᴰ said (outgoing (act_sends views a.table u act z) (act_done views a.table u act z))) same k in
         let by : p.sender ≡ u = ap (λ (z : Parcel). z.sender) e in (
           said,
-          subst (λ z. Memᴰ (sent_by z said) then.sent) (sym by) (mathlib.Core.List.Memᴰ.append_left c.sent (mathlib.Core.List.Memᴰ.map (sent_by u) k')),
+          subst (λ z. Memᴰ (sent_by z said) then.sent) (sym by) (Memᴰ.append_left c.sent (Memᴰ.map (sent_by u) k')),
           ap (λ (z : Parcel). z.bytes) e,
           h,
         )
@@ -109,13 +110,13 @@ module _ {T : Type 0} (y : Ways T) where
       serves = goes_served y.rule a.table.units u _ a.wire m laid lost out ∙ told.serves;
       running = acts u act told.running sound may (subst (λ (z : State). act_fault views a.table u act z ≡ None) same ok);
       states = new_state;
-      waits = λ x p lt k out_of_lem.
+      waits = λ x p lt k not_false.
           let lt' : x < a.wire.served = subst (λ z. x < z) (goes_served y.rule a.table.units u _ a.wire m laid lost out) lt in
           elim (goes_in y.rule a.table.units u _ a.wire m laid lost out x p k) [
-            | inl i ↦ old_sent p (told.waits x p lt' i out_of_lem)
+            | inl i ↦ old_sent p (told.waits x p lt' i not_false)
             | inr i ↦ now_sent p i.0 i.1 i.2 i.3
           ];
-      handed_in = λ x k. elim (mathlib.Core.List.Memᴰ.append_cases (handed_to act) k) [
+      handed_in = λ x k. elim (Memᴰ.append_cases (handed_to act) k) [
         | inl i ↦ hand x i
         | inr i ↦ let (t, j, e) = told.handed_in x i in (t, more t j, e)
       ];
@@ -132,9 +133,9 @@ module _ {T : Type 0} (y : Ways T) where
       serves = serves ∙ told.serves;
       running = told.running;
       states = told.states;
-      waits = λ u p lt k out_of_lem. elim (old u p k) [
-        | inl i ↦ told.waits u p (subst (λ z. u < z) serves lt) i out_of_lem
-        | inr i ↦ absurd (out_of_lem i)
+      waits = λ u p lt k not_false. elim (old u p k) [
+        | inl i ↦ told.waits u p (subst (λ z. u < z) serves lt) i not_false
+        | inr i ↦ absurd (not_false i)
       ];
       handed_in = told.handed_in;
     }
@@ -150,7 +151,7 @@ module _ {T : Type 0} (y : Ways T) where
     ]
 
   no_hand : {X : Type 0} (x : Writing) → Memᴰ x [] → X
-  no_hand x k = absurd (mathlib.Core.List.Memᴰ.not-nil k)
+  no_hand x k = absurd (Memᴰ.not-nil k)
 
   -- what an accepted call leads to, with its deeds and its tickets
   abbrev Leads : World → Call T → Course → List T → World → Type 0
@@ -164,8 +165,8 @@ module _ {T : Type 0} (y : Ways T) where
       let (asks, f) = both_none _ _ ok in
       subst (λ (z : World). Told y z (after views a.table now u (putting (y.written t))) (ts ++ (t ∷ []))) (sym e.units)
       (acted a now ts (ts ++ (t ∷ [])) told u (putting (y.written t)) (asked_sound a u asks) tt (unit_none _ f) b.wire _ _ e.out
-      (λ z k. mathlib.Core.List.Memᴰ.append_left (t ∷ []) k)
-      (λ x k. (t, mathlib.Core.List.Memᴰ.append_right ts (mathlib.Core.List.Memᴰ.head refl), elim (mathlib.Core.List.Memᴰ.cases_cons k) [ inl i ↦ sym i | inr i ↦ no_hand x i ])))
+      (λ z k. Memᴰ.append_left (t ∷ []) k)
+      (λ x k. (t, Memᴰ.append_right ts (Memᴰ.head refl), elim (Memᴰ.cases_cons k) [ inl i ↦ sym i | inr i ↦ no_hand x i ])))
   led a b (call.deliver u k) v now ts told ok e =
       let (asks, f) = both_none _ _ ok in
       let (reads, g) = both_none _ _ f in
@@ -174,16 +175,16 @@ module _ {T : Type 0} (y : Ways T) where
       let act = receiving (waiting_at a u k).sender (handed (waiting_at a u k).bytes) in
       subst (λ (z : World). Told y z (after views a.table now u act) (ts ++ [])) (sym e.units)
       (acted a now ts (ts ++ []) told u act (asked_sound a u asks) (delivered a now ts told u k lt lk) (unit_none _ g) b.wire _ _ e.out
-      (λ z i. mathlib.Core.List.Memᴰ.append_left [] i) (λ x i. no_hand x i))
+      (λ z i. Memᴰ.append_left [] i) (λ x i. no_hand x i))
   led a b (call.announce u) v now ts told ok e = unchanged a b now ts e.0 told
   led a b (call.raise u w) v now ts told ok e =
       let (asks, f) = both_none _ _ ok in
       subst (λ (z : World). Told y z (after views a.table now u (raising w)) (ts ++ [])) (sym e.units)
-      (acted a now ts (ts ++ []) told u (raising w) (asked_sound a u asks) tt (unit_none _ f) b.wire _ _ e.out (λ z i. mathlib.Core.List.Memᴰ.append_left [] i) (λ x i. no_hand x i))
+      (acted a now ts (ts ++ []) told u (raising w) (asked_sound a u asks) tt (unit_none _ f) b.wire _ _ e.out (λ z i. Memᴰ.append_left [] i) (λ x i. no_hand x i))
   led a b (call.repeat u) v now ts told ok e =
       let (asks, f) = both_none _ _ ok in
       subst (λ (z : World). Told y z (after views a.table now u repeating) (ts ++ [])) (sym e.units)
-      (acted a now ts (ts ++ []) told u repeating (asked_sound a u asks) tt refl b.wire _ _ e.out (λ z i. mathlib.Core.List.Memᴰ.append_left [] i) (λ x i. no_hand x i))
+      (acted a now ts (ts ++ []) told u repeating (asked_sound a u asks) tt refl b.wire _ _ e.out (λ z i. Memᴰ.append_left [] i) (λ x i. no_hand x i))
   led a b (call.lose u k) v now ts told ok e =
       unchanged (world a.table a.falses a.units b.wire) b now ts e.0
       (on_wire a now ts told b.wire e.1.1.served (λ x p i. inl (drop_in a.wire b.wire u k e.1.1 x p i)))
@@ -237,8 +238,8 @@ module _ {T : Type 0} (y : Ways T) where
     serves = m.served;
     running = begin;
     states = m.new;
-    waits = λ u p lt k out_of_lem. absurd (mathlib.Core.List.Memᴰ.not-nil (subst (λ (l : List Parcel). Memᴰ p l) (m.quiet u lt) k));
-    handed_in = λ x k. absurd (mathlib.Core.List.Memᴰ.not-nil k);
+    waits = λ u p lt k not_false. absurd (Memᴰ.not-nil (subst (λ (l : List Parcel). Memᴰ p l) (m.quiet u lt) k));
+    handed_in = λ x k. absurd (Memᴰ.not-nil k);
   }
 
   pub run_tells : (w : World) (run : Run y w) → Tells w (deeds_of run) (tickets_of run)
