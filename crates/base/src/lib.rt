@@ -5,4 +5,4 @@ mod fault;
 mod limits;
 
 pub use fault::{Fault, FaultCode, Layer};
-pub use limits::{FAULT_SETS, PACKET_BYTES, QUORUMS, UNITS, VIEWS};
+pub use limits::{FAULT_SETS, PACKET_BYTES, QUORUMS, UNIT_COUNT, UNITS, VIEW_COUNT, VIEWS};

@@ -1,12 +1,12 @@
 // What is asked of a row.
-ghost use Rattle.std.specs.Prelude.{◌≡◌, ℕ, Decides};
-ghost use Rattle.sets.specs.Sets.{Has};
+ghost use Rattle.std.specs.Prelude.{◌≡◌, Decides};
 ghost use Rattle.rows.specs.Rows.{Wanted};
 
 use crate::row::Row;
+use sets::{has_place, some_place};
 use ticket::Writing;
 
-// A question to a row, beside a ticket.
+// A question to a row, beside a ticket. A value and not a closure: contracts name it, and each rule asks one of them.
 #[derive(Clone, Copy)]
 pub enum Test {
     // has it the ticket?
@@ -23,36 +23,19 @@ pub enum Test {
     OtherFilled,
 }
 
-// Is the place p in the set?
-pub fn has_place(set: u32, p: u32) -> bool
-    ensures { Decides result (Has set p) }
-{
-    p < 32 && (set >> p) & 1 == 1
-}
-
-// Is some place in the set?
-pub fn some_place(set: u32) -> bool
-    ensures { Decides result ((p : ℕ) × Has set p) }
-{
-    set != 0
-}
-
-fn same_ticket(a: Writing, b: Writing) -> bool
-    ensures { Decides result (a ≡ b) }
-{
-    a == b
-}
-
-// Does the row answer the question with yes?
-pub fn wanted(test: Test, ticket: Writing, row: Row) -> bool
-    ensures { Decides result (Wanted test ticket row) }
-{
-    match test {
-        Test::Ticket => same_ticket(row.ticket, ticket),
-        Test::Place(p) => same_ticket(row.ticket, ticket) && has_place(row.set, p),
-        Test::Filled => same_ticket(row.ticket, ticket) && some_place(row.set),
-        Test::Marked => same_ticket(row.ticket, ticket) && row.mark,
-        Test::Other => !same_ticket(row.ticket, ticket),
-        Test::OtherFilled => !same_ticket(row.ticket, ticket) && some_place(row.set),
+impl Test {
+    // Does the row answer the question with yes?
+    pub fn wanted(self, ticket: Writing, row: Row) -> bool
+        ensures { Decides result (Wanted self ticket row) }
+    {
+        let same = row.ticket == ticket;
+        match self {
+            Test::Ticket => same,
+            Test::Place(p) => same && has_place(row.set, p),
+            Test::Filled => same && some_place(row.set),
+            Test::Marked => same && row.mark,
+            Test::Other => !same,
+            Test::OtherFilled => !same && some_place(row.set),
+        }
     }
 }

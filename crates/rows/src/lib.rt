@@ -6,7 +6,8 @@ mod row;
 mod rule;
 mod said;
 
-pub use asked::{Test, has_place, some_place, wanted};
+pub use asked::Test;
 pub use row::Row;
 pub use rule::{Rule, ranked, test_of};
 pub use said::senders;
+pub use sets::{has_place, some_place};

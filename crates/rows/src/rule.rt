@@ -3,6 +3,7 @@ ghost use Rattle.std.specs.Prelude.{◌≡◌, Decides};
 ghost use Rattle.rows.specs.Rules.{Ranked, test_of};
 
 use crate::asked::Test;
+use std::fmt;
 
 // The least rule is the strongest.
 #[derive(Clone, Copy, PartialEq, Eq, Debug)]
@@ -13,6 +14,16 @@ pub enum Rule {
     Second,
     // any quorum with the ticket and the mark
     Third,
+}
+
+impl fmt::Display for Rule {
+    fn fmt<W: fmt::Write>(&self, f: &mut fmt::Formatter<W>) -> fmt::Result {
+        f.write_str(match self {
+            Rule::First => "rule 1",
+            Rule::Second => "rule 2",
+            Rule::Third => "rule 3",
+        })
+    }
 }
 
 // Is the rule for quorums of this class?

@@ -1,15 +1,29 @@
-// Sets of units as 16-bit masks: bit i stands for unit i.
+// Sets of numbers as masks: bit i stands for unit i of 16, or for place i of 32.
 #![tactic(auto)]
 
 ghost use Rattle.std.specs.Prelude.{◌≡◌, ℕ, ◌<◌, ◌⊎◌, Decides};
 ghost use Rattle.sets.specs.Sets.{Has, Is, Inside, Below, Bearable, Basic, Large};
 ghost use Rattle.sets.specs.Covers.{CoveredWith};
 
+// Is place p in the set?
+pub fn has_place(set: u32, p: u32) -> bool
+    ensures { Decides result (Has set p) }
+{
+    p < 32 && (set >> p) & 1 == 1
+}
+
+// Is some place in the set?
+pub fn some_place(set: u32) -> bool
+    ensures { Decides result ((p : ℕ) × Has set p) }
+{
+    set != 0
+}
+
 // Is unit x in the set?
 pub fn has(s: u16, x: u32) -> bool
     ensures { Decides result (Has s x) }
 {
-    x < 16 && (s >> x) & 1 == 1
+    has_place(u32::from(s), x)
 }
 
 // Is each unit of a in b?
@@ -30,7 +44,7 @@ pub fn same(a: u16, b: u16) -> bool
 pub fn some_unit(s: u16) -> bool
     ensures { Decides result ((x : ℕ) × Has s x) }
 {
-    s != 0
+    some_place(u32::from(s))
 }
 
 // Is each unit of the set below n?
@@ -72,12 +86,7 @@ pub fn with(s: u16, x: u32) -> u16
 pub fn bearable(faults: &[u16], s: u16) -> bool
     ensures { Decides result (Bearable faults.now (Has s)) }
 {
-    for f in faults {
-        if inside(s, *f) {
-            return true;
-        }
-    }
-    false
+    faults.iter().any(|f| inside(s, *f))
 }
 
 // Does it lie inside none?
@@ -98,10 +107,5 @@ fn covered_with(faults: &[u16], g: u16, s: u16) -> bool
 pub fn large(faults: &[u16], s: u16) -> bool
     ensures { Decides result (Large faults.now (Has s)) }
 {
-    for g in faults {
-        if covered_with(faults, *g, s) {
-            return false;
-        }
-    }
-    true
+    !faults.iter().any(|g| covered_with(faults, *g, s))
 }

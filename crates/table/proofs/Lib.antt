@@ -1,3 +1,4 @@
+pub mod Few
 pub mod Masks
 pub mod Passes
 pub mod Trials

@@ -1,14 +1,14 @@
 -- A table that gives no question offence is proper; one that gives offence is not, and has one fault.
-use Rattle.std.proofs.Common.{◌≡◌, ℕ, zero, suc, ◌+◌, ◌<◌, ◌≤◌, List, [], ◌∷◌, ◌++◌, length, get_or, take, set, sym, refl, ap, ◌∙◌, subst, inl, inr, add-one, arith, take-suc, take-suc-set}
+use Rattle.std.proofs.Common.{◌≡◌, ℕ, zero, suc, ◌<◌, ◌≤◌, None, Some, Option, MatchOption, sym, refl, ap, ◌∙◌, subst, inl, inr, arith}
 use Rattle.std.proofs.lemmas.Bool.{cases_order}
 use Rattle.table.specs.declared.question.Question.{Question}
 use Rattle.table.specs.declared.question.Question.TheVariants as asked
 use Rattle.table.specs.declared.question.PairQuestion.TheVariants as pairs
 use Rattle.table.specs.declared.fault.TableFault.{TableFault}
 use Rattle.table.specs.declared.fault.TableFault.TheVariants as faults
-use Rattle.table.specs.Tables.{Quorum, QuorumTable, table_of, Proper}
+use Rattle.table.specs.Tables.{QuorumTable, Proper}
 use Rattle.table.specs.Faults.{table_says}
-use Rattle.table.specs.Questions.{question_of, fault_of, AllFine, FirstUnfit, Found}
+use Rattle.table.specs.Questions.{question_of, places_of, fault_of, Fine, AllFine, FirstUnfit, Found}
 
 pub proper_from : (tb : QuorumTable) → ((k : ℕ) → k < 10 → 1 ≤ k → AllFine (question_of k) tb) → Proper tb
 proper_from tb f =
@@ -116,11 +116,13 @@ module _ (tb : QuorumTable) where
       let i = same_place (question_of (table_says e').number) (table_says e).place (table_says e').place u f'.unfit in
       sym (says_back e) ∙ ap (λ (k : ℕ). fault_of (question_of k) (table_says e).place) n ∙ ap (fault_of (question_of (table_says e').number)) i ∙ says_back e'
 
--- one more entry copied
-pub copied_more : {A : Type 0} (kept from : List A) (i : ℕ) (x : A) → i < length kept → i < length from → x ≡ get_or from i x → take i kept ≡ take i from
-    → take (i + 1) (set kept i x) ≡ take (i + 1) from
-copied_more kept from i x lk lf e same =
-    rw (add-one, take-suc-set kept i x lk, same, take-suc from i x lf) (ap (λ y. take i from ++ (y ∷ [])) e)
-
-pub same_table : (n : ℕ) (fs fs' : List ℕ) (qs qs' : List Quorum) → fs ≡ fs' → qs ≡ qs' → table_of n fs qs ≡ table_of n fs' qs'
-same_table n fs fs' qs qs' e e' = cc
+-- the first of a question's places that offends, found among so many
+pub first_place : (question : Question) (tb : QuorumTable) (n : ℕ) (r : Option ℕ) → n ≡ places_of question tb
+    → MatchOption r ((k : ℕ) → k < n → Fine question tb k) (λ i. (i < n) × (Fine question tb i → ⊥) × ((k : ℕ) → k < i → Fine question tb k))
+    → MatchOption r (AllFine question tb) (FirstUnfit question tb)
+first_place question tb n None e h = λ i lt. h i (subst (λ m. i < m) (sym e) lt)
+first_place question tb n (Some i) e h = record {
+  place = subst (λ m. i < m) e h.0;
+  offends = h.1;
+  before = h.2;
+}

@@ -1,11 +1,8 @@
 -- What the caller's table means, and a passed one.
-use Rattle.std.specs.Prelude.{take}
-use Rattle.table.specs.Tables.{QuorumTable, table_of}
+pub use Rattle.table.specs.Listed.{listed}
+use Rattle.table.specs.Tables.{QuorumTable}
 use Rattle.table.specs.declared.passed.Passed.{Passed}
-use Rattle.table.specs.declared.table.Table.{Table}
 
-abbrev pub listed : Table → QuorumTable
-listed t = table_of t.units t.faults.now t.quorums.now
-
+-- a passed table is seen as what it means
 abbrev pub means : Passed → QuorumTable
-means p = table_of p.units (take p.fcount p.faults) (take p.qcount p.quorums)
+means p = p

@@ -2,7 +2,7 @@
 use Rattle.std.specs.Prelude.{◌≡◌, ℕ, ◌-◌, ◌<◌, ◌≤◌, ◌⊎◌, [], ◌∷◌, length, slice_index, slice_index_or}
 use Rattle.base.specs.Limits.{units_most, fault_sets_most, quorums_most}
 use Rattle.sets.specs.Sets.{Has, Is, Below, Basic, Large}
-use Rattle.table.specs.Tables.{Quorum, QuorumTable, IsQuorum, quorum_at, In, class_of, Class1, Shared2, Shared3}
+use Rattle.table.specs.Tables.{Quorum, QuorumTable, IsQuorum, quorum_at, In, class_of, Class1, Shared2}
 use Rattle.table.specs.Faults.{table_says}
 use Rattle.table.specs.declared.fault.TableFault.{TableFault}
 use Rattle.table.specs.declared.question.Question.{Question}
@@ -58,29 +58,32 @@ FineEntry n q = ((x : ℕ) × Has q.set x) × Below n q.set × ((1 ≤ q.class) 
 abbrev pub Differ : QuorumTable → ℕ → ℕ → Type 0
 Differ tb p q = p < q → ¬ (Is (quorum_at tb p).set (In tb q))
 
--- the pair shares a large set with every quorum
-abbrev pub LargeWithAll : QuorumTable → ℕ → ℕ → Type 0
-LargeWithAll tb p p' = (q : ℕ) → IsQuorum tb q → Large tb.faults (Shared3 tb p p' q)
+-- the two quorums share a large set with every quorum
+abbrev pub LargeWithAll : QuorumTable → Quorum → Quorum → Type 0
+LargeWithAll tb a b = (q : ℕ) → IsQuorum tb q → Large tb.faults (λ x. Has a.set x × Has b.set x × In tb q x)
 
--- the pair meets the second property with every quorum
-abbrev pub Second : QuorumTable → ℕ → ℕ → Type 0
-Second tb p p' = class_of tb p ≡ 1 → class_of tb p' ≡ 1 → LargeWithAll tb p p'
+-- the two meet the second property with every quorum
+abbrev pub Second : QuorumTable → Quorum → Quorum → Type 0
+Second tb a b = a.class ≡ 1 → b.class ≡ 1 → LargeWithAll tb a b
 
 -- each class 1 quorum shares a basic set with both
-abbrev pub Class1Basic : QuorumTable → ℕ → ℕ → Type 0
-Class1Basic tb p q = (f : ℕ) → IsQuorum tb f → class_of tb f ≡ 1 → Basic tb.faults (Shared3 tb f p q)
+abbrev pub Class1Basic : QuorumTable → Quorum → Quorum → Type 0
+Class1Basic tb a b = (f : ℕ) → IsQuorum tb f → class_of tb f ≡ 1 → Basic tb.faults (λ x. In tb f x × Has a.set x × Has b.set x)
 
--- the pair meets the third property
-abbrev pub Third : QuorumTable → ℕ → ℕ → Type 0
-Third tb p q =
-    class_of tb p ≤ 2 → Large tb.faults (Shared2 tb p q) ⊎ (((f : ℕ) × Class1 tb f) × Class1Basic tb p q)
+-- class 1 is not empty, and each class 1 quorum shares a basic set with both
+abbrev pub Helped : QuorumTable → Quorum → Quorum → Type 0
+Helped tb a b = ((f : ℕ) × Class1 tb f) × Class1Basic tb a b
+
+-- the two meet the third property
+abbrev pub Third : QuorumTable → Quorum → Quorum → Type 0
+Third tb a b = a.class ≤ 2 → Large tb.faults (λ x. Has a.set x × Has b.set x) ⊎ Helped tb a b
 
 -- what is asked of the quorums at places p and q
 abbrev pub FinePair : PairQuestion → QuorumTable → ℕ → ℕ → Type 0
 FinePair pairs.Differ tb p q = Differ tb p q
 FinePair pairs.First tb p q = Basic tb.faults (Shared2 tb p q)
-FinePair pairs.Second tb p q = Second tb p q
-FinePair pairs.Third tb p q = Third tb p q
+FinePair pairs.Second tb p q = Second tb (quorum_at tb p) (quorum_at tb q)
+FinePair pairs.Third tb p q = Third tb (quorum_at tb p) (quorum_at tb q)
 
 -- no pair or triple that begins at place p offends
 abbrev pub FinePairs : PairQuestion → QuorumTable → ℕ → Type 0

@@ -2,6 +2,7 @@
 ghost use Rattle.table.specs.Faults.{table_says};
 
 use base::{Fault, FaultCode, Layer};
+use std::fmt;
 
 // What a table fails first. A case per number, 1 to 9, with its place inside.
 #[derive(Clone, Copy, PartialEq, Eq, Debug)]
@@ -46,5 +47,23 @@ impl Fault for TableFault {
             layer: Layer::Table,
             place,
         }
+    }
+}
+
+impl fmt::Display for TableFault {
+    fn fmt<W: fmt::Write>(&self, f: &mut fmt::Formatter<W>) -> fmt::Result {
+        f.write_str(match self {
+            TableFault::Units => "there are not 1 to 16 units",
+            TableFault::FaultSetCount => "there are not 1 to 32 fault sets",
+            TableFault::FaultSet(_) => "a fault set names a unit that is not there",
+            TableFault::QuorumCount => "there are not 1 to 32 quorums",
+            TableFault::Entry(_) =>
+                "a quorum names no unit, or one that is not there, or has no class 1 to 3",
+            TableFault::Repeated(_) => "two quorums are the same set",
+            TableFault::FirstProperty(_) => "two quorums share no basic set",
+            TableFault::SecondProperty(_) => "two class 1 quorums and a quorum share no large set",
+            TableFault::ThirdProperty(_) =>
+                "a class 1 or 2 quorum and a quorum share no large set, and class 1 does not help",
+        })
     }
 }

@@ -24,4 +24,6 @@ pub fn samples_hold()
 // What is held of a passed table, by its type alone.
 pub fn passed_is_proper(passed: &Passed<'_>)
     ensures { ∥ Proper (means passed.now) ∥₁ }
-{}
+{
+    passed.table();
+}

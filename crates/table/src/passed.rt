@@ -1,24 +1,36 @@
-// A table that has passed: a reading of the caller's table, which stays lent as long as it is held.
-ghost use Rattle.std.specs.Prelude.{◌≡◌, ◌≤◌, length, take};
-ghost use Rattle.table.specs.Tables.{table_of, Proper};
+// A table that has passed: the caller's lists, which stay lent as long as it is held.
+ghost use Rattle.std.specs.Prelude.{◌≡◌};
 
-use crate::quorum::Quorum;
-use base::{FAULT_SETS, QUORUMS};
-use std::marker::PhantomData;
+use crate::table::Table;
+use std::marker::Model;
 
-// Its properties are facts of the type: only the check makes one.
+// It is seen as what the table means, and its properties are its invariant: only the check makes one.
 #[derive(Drop)]
 pub struct Passed<'a> {
-    pub(crate) units: u32,
-    pub(crate) fcount: usize,
-    pub(crate) faults: [u16; FAULT_SETS],
-    pub(crate) qcount: usize,
-    pub(crate) quorums: [Quorum; QUORUMS],
-    pub(crate) lender: PhantomData<&'a [u16]>,
-    pub(crate) qlender: PhantomData<&'a [Quorum]>,
-    ghost flong: { length faults ≡ 32 },
-    ghost qlong: { length quorums ≡ 32 },
-    ghost few: { fcount ≤ 32 },
-    ghost qfew: { qcount ≤ 32 },
-    ghost proper: { ∥ Proper (table_of units (take fcount faults) (take qcount quorums)) ∥₁ },
+    pub(crate) table: Table<'a>,
+}
+
+impl<'a> Model for Passed<'a> {
+    ghost use Rattle.table.specs.Tables.{QuorumTable, Proper};
+
+    ghost Value = { QuorumTable };
+
+    ghost use Rattle.table.specs.Listed.{listed};
+
+    ghost view = { λ p. listed p.table };
+
+    ghost invariant = { λ p. ∥ Proper (listed p.table) ∥₁ };
+}
+
+impl<'a> Passed<'a> {
+    ghost use Rattle.table.specs.Tables.{Proper};
+    ghost use Rattle.table.specs.Means.{listed, means};
+
+    // The caller's table again. It is proper.
+    pub fn table(&self) -> Table<'a>
+        ensures is { listed result ≡ means self.now }
+        ensures proper { ∥ Proper (means self.now) ∥₁ }
+    {
+        self.table
+    }
 }

@@ -1,6 +1,6 @@
 // The questions that a table is asked.
 
-// What is asked of a table, in this order.
+// What is asked of a table, in this order. Values and not closures: a question tells its places and its fault, and contracts name it.
 #[derive(Clone, Copy)]
 pub enum Question {
     Units,

@@ -15,19 +15,19 @@ pub const LOOMS: u32 = 65535;
 pub(crate) fn ends_fit(ends: u32) -> bool
     ensures { result ≡ ends_fit ends }
 {
-    1 <= ends && ends <= ENDS
+    (1..=ENDS).contains(&ends)
 }
 
 // Whether a plan can have so many picks, and a piece can be cut at this pick.
 pub(crate) fn picks_fit(picks: u32) -> bool
     ensures { result ≡ picks_fit picks }
 {
-    1 <= picks && picks <= PICKS
+    (1..=PICKS).contains(&picks)
 }
 
 // Whether a word is a set of looms that an order can hold.
 pub(crate) fn looms_fit(set: u32) -> bool
     ensures { result ≡ looms_fit set }
 {
-    1 <= set && set <= LOOMS
+    (1..=LOOMS).contains(&set)
 }

@@ -22,10 +22,10 @@ fn first_word(bytes: &[u8]) -> u32
 pub fn word_at(bytes: &[u8], at: usize) -> u32
     ensures { result ≡ word bytes.now at }
 {
-    if at >= bytes.len() {
-        return 0;
+    match bytes.get(at..) {
+        Some(rest) => first_word(rest),
+        None => 0,
     }
-    first_word(&bytes[at..])
 }
 
 // The four words of sixteen bytes.
@@ -53,6 +53,7 @@ pub fn bytes_of(writing: Writing) -> [u8; 16]
     ensures is { result ≡ bytes_of writing }
     ensures back { writing_of result ≡ writing }
 {
+    // listed one by one: a walk over four chunks of an array is longer and says no more
     let a = writing.a.to_be_bytes();
     let b = writing.b.to_be_bytes();
     let c = writing.c.to_be_bytes();

@@ -1,5 +1,6 @@
 // What a kind of ticket means.
 ghost use Rattle.std.specs.Prelude.{◌≡◌, ℕ, ◌^◌, ◌<◌, Some, None, Option as Maybe, MatchResult};
+ghost use Rattle.base.specs.Asked.{Asked};
 ghost use Rattle.ticket.specs.Writings.{Words, bytes_of};
 ghost use Rattle.ticket.specs.declared.fault.TicketFault.{TicketFault};
 ghost use Rattle.ticket.specs.declared.writing.Writing.{Writing};
@@ -17,9 +18,9 @@ pub trait Ticket: Sized {
     fn writing(&self) -> Writing
         ensures { result ≡ written self.now };
 
-    // Why a writing is no ticket of the kind, if it is none.
-    fn refusal(writing: Writing) -> Option<TicketFault>
-        ensures { result ≡ refuses writing };
+    // Whether a writing is a ticket's, and if not, why.
+    fn check(writing: Writing) -> Result<(), TicketFault>
+        ensures { Asked (refuses writing) result };
 
     // The ticket of a writing.
     fn of_writing(writing: Writing) -> Result<Self, TicketFault>

@@ -30,7 +30,7 @@ impl Looms {
     }
 }
 
-// One weft thread of a piece.
+// One weft thread of a piece. (A type beside `Looms`: one type with its bound as a parameter would have one word for both numbers.)
 #[derive(Clone, Copy, PartialEq, Eq, Debug)]
 pub struct Pick {
     number: u32,

@@ -10,15 +10,34 @@ use crate::kind::Ticket;
 use crate::order::{Looms, Order, Pick};
 use crate::writing::Writing;
 
+// The first word of each order's writing.
+const RUN: u32 = 0;
+
+const HOLD: u32 = 1;
+
+const CUT: u32 = 2;
+
 // Whether a datum goes with the word that says which order.
 fn datum_fits(order: u32, datum: u32) -> bool
     ensures { result ≡ datum_fits order datum }
 {
     match order {
-        0 => datum == 0,
-        1 => looms_fit(datum),
-        2 => picks_fit(datum),
+        RUN => datum == 0,
+        HOLD => looms_fit(datum),
+        CUT => picks_fit(datum),
         _ => false,
+    }
+}
+
+// An order's writing: which one, its datum, and two words of 0.
+fn order_words(order: u32, datum: u32) -> Writing
+    ensures { result ≡ record { a = order; b = datum; c = 0; d = 0 } }
+{
+    Writing {
+        a: order,
+        b: datum,
+        c: 0,
+        d: 0,
     }
 }
 
@@ -37,46 +56,33 @@ impl Ticket for Order {
 
     fn writing(&self) -> Writing {
         match self {
-            Order::Run => Writing {
-                a: 0,
-                b: 0,
-                c: 0,
-                d: 0,
-            },
-            Order::Hold(looms) => Writing {
-                a: 1,
-                b: looms.set(),
-                c: 0,
-                d: 0,
-            },
-            Order::Cut(pick) => Writing {
-                a: 2,
-                b: pick.number(),
-                c: 0,
-                d: 0,
-            },
+            Order::Run => order_words(RUN, 0),
+            Order::Hold(looms) => order_words(HOLD, looms.set()),
+            Order::Cut(pick) => order_words(CUT, pick.number()),
         }
     }
 
-    fn refusal(writing: Writing) -> Option<TicketFault> {
+    fn check(writing: Writing) -> Result<(), TicketFault> {
         if writing.c == 0 && writing.d == 0 && datum_fits(writing.a, writing.b) {
-            None
+            Ok(())
         } else {
-            Some(TicketFault::NotOfTheKind)
+            Err(TicketFault::NotOfTheKind)
         }
     }
 
     fn of_writing(writing: Writing) -> Result<Order, TicketFault> {
         match (writing.a, writing.b, writing.c, writing.d) {
-            (0, 0, 0, 0) => Ok(Order::Run),
-            (1, set, 0, 0) => match Looms::new(set) {
-                Some(looms) => Ok(Order::Hold(looms)),
-                None => Err(TicketFault::NotOfTheKind),
-            },
-            (2, number, 0, 0) => match Pick::new(number) {
-                Some(pick) => Ok(Order::Cut(pick)),
-                None => Err(TicketFault::NotOfTheKind),
-            },
+            (RUN, 0, 0, 0) => Ok(Order::Run),
+            (HOLD, set, 0, 0) => {
+                Looms::new(set)
+                    .map(Order::Hold)
+                    .ok_or(TicketFault::NotOfTheKind)
+            }
+            (CUT, number, 0, 0) => {
+                Pick::new(number)
+                    .map(Order::Cut)
+                    .ok_or(TicketFault::NotOfTheKind)
+            }
             _ => Err(TicketFault::NotOfTheKind),
         }
     }

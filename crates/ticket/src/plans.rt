@@ -32,18 +32,15 @@ impl Ticket for Plan {
         }
     }
 
-    fn refusal(writing: Writing) -> Option<TicketFault> {
+    fn check(writing: Writing) -> Result<(), TicketFault> {
         if ends_fit(writing.b) && picks_fit(writing.c) {
-            None
+            Ok(())
         } else {
-            Some(TicketFault::NotOfTheKind)
+            Err(TicketFault::NotOfTheKind)
         }
     }
 
     fn of_writing(writing: Writing) -> Result<Plan, TicketFault> {
-        match Plan::new(writing.a, writing.b, writing.c, writing.d) {
-            Some(plan) => Ok(plan),
-            None => Err(TicketFault::NotOfTheKind),
-        }
+        Plan::new(writing.a, writing.b, writing.c, writing.d).ok_or(TicketFault::NotOfTheKind)
     }
 }

@@ -18,20 +18,12 @@ fn reads_ends(ends: u32) -> bool
         c: 3200,
         d: 1,
     });
-    match read::<Plan>(&bytes) {
-        Ok(_) => true,
-        Err(_) => false,
-    }
+    read::<Plan>(&bytes).is_ok()
 }
 
 // Reads the samples: 1 and 32,768 ends are read, 0 and 32,769 are not.
 pub fn ends_samples() -> [bool; 4]
     ensures { (result ≡ true ∷ true ∷ false ∷ false ∷ []) × (EndsSamples ends_samples) }
 {
-    [
-        reads_ends(1),
-        reads_ends(32768),
-        reads_ends(0),
-        reads_ends(32769),
-    ]
+    [1, 32768, 0, 32769].map(reads_ends)
 }

@@ -1,11 +1,10 @@
-use Rattle.std.proofs.Common.{arith, below_more}
-use Rattle.std.proofs.lemmas.Bool.Decides.{not_from_Decides}
-use Rattle.sets.specs.Sets.{Has, Inside, fault_at}
-use Rattle.sets.proofs.Sides.{none_stand}
+use Rattle.std.proofs.Common.{ℕ, rules, tests}
+use Rattle.std.proofs.lemmas.Iterator.{YieldsList-from_slice}
+use Rattle.sets.specs.Sets.{Has, Inside}
+use Rattle.sets.proofs.Searches.{any_decides}
 use Rattle.sets.proofs.bearable.Goals as goal
 
-pub loop-f-preserved : goal.loop-f-preserved
-loop-f-preserved c = below_more _ _ c.loop-f.invariant (not_from_Decides _ c.inside.ensures c.if-inside.false)
-
 pub returns : goal.returns
-returns c = none_stand (λ k. Inside (Has c.args.s) (fault_at c.args.faults.now k)) _ c.loop-f.f-index (omega arith) c.loop-f.invariant
+returns c =
+    any_decides (λ (f : ℕ). Inside (Has c.args.s) (Has f)) 0 _ _ _ c.any.ensures.ran (YieldsList-from_slice c.args.faults.now cc)
+    (λ x q k. search (rules, tests)) (λ x q k. search (rules, tests))

@@ -1,5 +1,0 @@
-use Rattle.sets.proofs.Bits.{some_tells}
-use Rattle.rows.proofs.asked.some_place.Goals as goal
-
-pub returns : goal.returns
-returns c = some_tells c.args.set
