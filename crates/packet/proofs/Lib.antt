@@ -1,3 +1,2 @@
 pub mod Walks
 pub mod Sets
-pub mod Opening

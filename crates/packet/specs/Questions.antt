@@ -1,12 +1,12 @@
 -- The questions asked of a packet, each of the whole packet before the next.
 -- `views` is the number of views, `quorums` that of the listed quorums, `refuses` the kind of ticket in use.
 use Rattle.std.specs.Prelude.{ℕ, zero, suc, ◌+◌, ◌/◌, ◌%◌, ◌^◌, Bool, true, cond, ◌&&◌, List, length, Some, None, Option, ◌==◌, nat_le, nat_lt}
+use Rattle.base.specs.Asked.{first}
 use Rattle.base.specs.Limits.{longest_packet}
-use Rattle.packet.specs.Said.{put_kind, row_kind, report_kind, kind_of, view_of, present, next, entries_offset}
+use Rattle.packet.specs.Kinds.{put_kind, row_kind, report_kind}
+use Rattle.packet.specs.Said.{kind_of, view_of, present, next, entries_offset}
 use Rattle.packet.specs.declared.fault.PacketFault.{PacketFault}
 use Rattle.packet.specs.declared.fault.PacketFault.TheVariants.{Length, Kind, View, Count, Shape, Ticket, Set, Mark}
-use Rattle.packet.specs.declared.row_questions.Question.{Question}
-use Rattle.packet.specs.declared.row_questions.Question.TheVariants as questions
 use Rattle.ticket.specs.Words.{word}
 use Rattle.ticket.specs.Writings.{writing_at}
 use Rattle.ticket.specs.declared.fault.TicketFault.{TicketFault}
@@ -15,11 +15,6 @@ use Rattle.ticket.specs.declared.writing.Writing.{Writing}
 -- the answer to a question: nothing where it is met, else the fault
 abbrev pub unless : Bool → PacketFault → Option PacketFault
 unless met fault = cond met None (Some fault)
-
--- the first fault of two questions in order
-abbrev pub first : Option PacketFault → Option PacketFault → Option PacketFault
-first None later = later
-first (Some fault) later = Some fault
 
 -- 40: a multiple of four, from the two words that all have to the longest packet
 abbrev pub length_fault : ℕ → ℕ → Option PacketFault
@@ -32,6 +27,10 @@ kind_fault k = unless (nat_le put_kind k && nat_le k report_kind) Kind
 -- 42: a report is for a view above 0
 abbrev pub view_fault : ℕ → ℕ → ℕ → Option PacketFault
 view_fault views k v = unless (nat_lt v views && nat_le (cond (k == report_kind) 1 0) v) View
+
+-- the questions on the length and the first two words
+abbrev pub head_fault : ℕ → List ℕ → Option PacketFault
+head_fault views bs = first (length_fault views (length bs)) (first (kind_fault (kind_of bs)) (view_fault views (kind_of bs) (view_of bs)))
 
 -- 43: a report has its count, which is its view
 abbrev pub count_fault : ℕ → ℕ → List ℕ → Option PacketFault
@@ -91,24 +90,14 @@ mark_fits s m = cond (m == 0) true (m == 1 && nat_lt 0 s)
 abbrev pub mark_fault : List ℕ → ℕ → Option PacketFault
 mark_fault bs i = unless (mark_fits (word bs (i + 16)) (word bs (i + 20))) (Mark (i + 20))
 
--- each of the three questions on a row at an offset
-abbrev pub asks : (Writing → Option TicketFault) → ℕ → Question → List ℕ → ℕ → Option PacketFault
-asks refuses quorums questions.Ticket bs i = ticket_fault refuses bs i
-asks refuses quorums questions.Set bs i = set_fault quorums bs i
-asks refuses quorums questions.Mark bs i = mark_fault bs i
-
 -- the questions on tickets, sets and marks
 abbrev pub rows_fault : (Writing → Option TicketFault) → ℕ → ℕ → ℕ → List ℕ → Option PacketFault
 rows_fault refuses quorums k v bs =
     first (each_fault (ticket_fault refuses bs) k v bs)
     (cond (k == put_kind) None (first (each_fault (set_fault quorums bs) k v bs) (each_fault (mark_fault bs) k v bs)))
 
--- all the questions, in order
-abbrev pub questioned : ℕ → (Writing → Option TicketFault) → ℕ → List ℕ → Option PacketFault
-questioned views refuses quorums bs =
+-- the fault of a packet, if it has one: all the questions, in order
+unfoldable pub packet_fault : ℕ → (Writing → Option TicketFault) → ℕ → List ℕ → Option PacketFault
+packet_fault views refuses quorums bs =
     first (length_fault views (length bs)) (first (kind_fault (kind_of bs)) (first (view_fault views (kind_of bs) (view_of bs)) (first (count_fault (kind_of bs) (view_of bs) bs)
     (first (shape_fault (kind_of bs) (view_of bs) bs) (rows_fault refuses quorums (kind_of bs) (view_of bs) bs)))))
-
--- the fault of a packet, if it has one
-unfoldable pub packet_fault : ℕ → (Writing → Option TicketFault) → ℕ → List ℕ → Option PacketFault
-packet_fault views refuses quorums bs = questioned views refuses quorums bs

@@ -1,5 +1,6 @@
 -- What a packet says, and where its words stand.
 use Rattle.std.specs.Prelude.{◌≡◌, ℕ, zero, suc, ◌+◌, Bool, cond, ◌&&◌, List, [], ◌∷◌, length, drop, Some, None, Option, ◌==◌, nat_le}
+use Rattle.packet.specs.Kinds.{put_kind, row_kind}
 use Rattle.packet.specs.declared.message.Message.{Message}
 use Rattle.packet.specs.declared.message.Message.TheVariants as messages
 use Rattle.packet.specs.declared.message.Report.{Report as Borrowed}
@@ -9,16 +10,7 @@ pub use Rattle.rows.specs.Said.{Said, says_put, says_row, says_report}
 use Rattle.ticket.specs.Words.{word}
 use Rattle.ticket.specs.Writings.{writing_at}
 
--- the first word of each kind of packet
-abbrev pub put_kind : ℕ
-put_kind = 1
-
-abbrev pub row_kind : ℕ
-row_kind = 2
-
-abbrev pub report_kind : ℕ
-report_kind = 3
-
+-- its first two words
 abbrev pub kind_of : List ℕ → ℕ
 kind_of bs = word bs 0
 
@@ -65,13 +57,9 @@ meaning (messages.Put v t) = says_put v t
 meaning (messages.Row v r) = says_row v r
 meaning (messages.Report r) = says_report r.view (entries_of r)
 
--- what the words of a packet say, by its kind
-abbrev pub said_as : List ℕ → Said
-said_as bs = cond (kind_of bs == put_kind) (says_put (view_of bs) (writing_at bs 8)) (cond (kind_of bs == row_kind) (says_row (view_of bs) (row_at bs 8)) (says_report (view_of bs) (entries_at (drop entries_offset bs) (view_of bs) 0)))
-
--- what a packet's bytes say
+-- what a packet's bytes say, by its kind
 unfoldable pub said_by : List ℕ → Said
-said_by bs = said_as bs
+said_by bs = cond (kind_of bs == put_kind) (says_put (view_of bs) (writing_at bs 8)) (cond (kind_of bs == row_kind) (says_row (view_of bs) (row_at bs 8)) (says_report (view_of bs) (entries_at (drop entries_offset bs) (view_of bs) 0)))
 
 -- a report that is read from a packet borrows all that follows the count, and knows its offset
 abbrev pub Borrows : List ℕ → Message → Type 0

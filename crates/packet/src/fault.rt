@@ -1,6 +1,5 @@
 // Why bytes are no packet.
-ghost use Rattle.std.specs.Prelude.{◌≡◌};
-ghost use Rattle.packet.specs.Faults.{packet_code, packet_says};
+ghost use Rattle.packet.specs.Faults.{packet_says};
 
 use base::{Fault, FaultCode, Layer};
 use ticket::TicketFault;
@@ -30,25 +29,14 @@ impl Fault for PacketFault {
 
     fn code(self) -> FaultCode {
         match self {
-            PacketFault::Length(length) => packet_code(40, length),
-            PacketFault::Kind => packet_code(41, 0),
-            PacketFault::View => packet_code(42, 4),
-            PacketFault::Count => packet_code(43, 8),
-            PacketFault::Shape(place) => packet_code(44, place),
-            PacketFault::Ticket { at, fault } => packet_code(fault.code().number, at),
-            PacketFault::Set(at) => packet_code(46, at),
-            PacketFault::Mark(at) => packet_code(47, at),
+            PacketFault::Length(length) => Layer::Packet.refusal(40, length),
+            PacketFault::Kind => Layer::Packet.refusal(41, 0),
+            PacketFault::View => Layer::Packet.refusal(42, 4),
+            PacketFault::Count => Layer::Packet.refusal(43, 8),
+            PacketFault::Shape(place) => Layer::Packet.refusal(44, place),
+            PacketFault::Ticket { at, fault } => Layer::Packet.refusal(fault.code().number, at),
+            PacketFault::Set(at) => Layer::Packet.refusal(46, at),
+            PacketFault::Mark(at) => Layer::Packet.refusal(47, at),
         }
-    }
-}
-
-// A number and a place of this layer.
-fn packet_code(number: u32, place: usize) -> FaultCode
-    ensures { result ≡ packet_code number place }
-{
-    FaultCode {
-        number,
-        layer: Layer::Packet,
-        place,
     }
 }

@@ -1,10 +1,11 @@
 // What a packet says.
 ghost use Rattle.std.specs.Prelude.{◌≡◌, drop};
+ghost use Rattle.packet.specs.Said.{entries_offset};
 
 use rows::Row;
 use ticket::Writing;
 
-// A report for a view: the entries' part of the packet, and its offset there.
+// A report for a view: the entries' part of the packet, and its offset there (of a report that was read it is 12).
 #[derive(Clone, Copy, Debug)]
 pub struct Report<'a> {
     view: u32,
@@ -16,21 +17,14 @@ pub struct Report<'a> {
 pub const ENTRIES_OFFSET: usize = 12;
 
 impl<'a> Report<'a> {
-    // A report for a view, from what follows the packet's kind and view.
-    pub(crate) fn after_head(view: u32, rest: &'a [u8]) -> Report<'a>
-        ensures { (result.view ≡ view) × (result.offset ≡ 12) × (result.entries.now ≡ drop 4 rest.now) }
+    // A report for a view in a packet's bytes.
+    pub(crate) fn in_packet(view: u32, bytes: &'a [u8]) -> Report<'a>
+        ensures { (result.view ≡ view) × (result.offset ≡ entries_offset) × (result.entries.now ≡ drop entries_offset bytes.now) }
     {
-        match rest {
-            [_, _, _, _, entries @ ..] => Report {
-                view,
-                offset: ENTRIES_OFFSET,
-                entries,
-            },
-            _ => Report {
-                view,
-                offset: ENTRIES_OFFSET,
-                entries: &[],
-            },
+        Report {
+            view,
+            offset: ENTRIES_OFFSET,
+            entries: bytes.get(ENTRIES_OFFSET..).unwrap_or(&[]),
         }
     }
 

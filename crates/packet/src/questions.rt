@@ -1,161 +1,142 @@
-// The questions asked of a packet, in order.
-ghost use Rattle.std.specs.Prelude.{◌≡◌, ℕ, ◌+◌, ◌^◌, ◌<◌, ◌≤◌};
+// The questions asked of a packet, in order, up to its shape.
+ghost use Rattle.std.specs.Prelude.{◌≡◌, None, Some, MatchResult};
+ghost use Rattle.base.specs.Asked.{Asked};
 ghost use Rattle.base.specs.Limits.{views};
-ghost use Rattle.packet.specs.Questions.{length_fault, kind_fault, view_fault, count_fault, ends_at, entry_shape, entries_shape, shape_fault, first, questioned};
-ghost use Rattle.packet.specs.Said.{kind_of, view_of, entries_offset};
+ghost use Rattle.packet.specs.Kinds.{kind_word};
+ghost use Rattle.packet.specs.Questions.{length_fault, view_fault, head_fault, count_fault, ends_at, entry_shape, entries_shape, shape_fault};
+ghost use Rattle.packet.specs.Said.{kind_of, view_of, next, entries_offset};
 
+use crate::entries::Entries;
 use crate::fault::PacketFault;
+use crate::kind::Kind;
 use crate::message::ENTRIES_OFFSET;
-use crate::row_questions::rows_fault;
-use crate::words::next_entry;
+use crate::place::Place;
 use base::{PACKET_BYTES, VIEWS};
-use ticket::{Ticket, word_at};
+use ticket::word_at;
 
-// The first word of each kind of packet.
-pub const PUT: u32 = 1;
-
-pub const ROW: u32 = 2;
-
-pub const REPORT: u32 = 3;
-
-fn length_fault(length: usize) -> Option<PacketFault>
-    ensures { result ≡ length_fault views length }
+fn check_length(length: usize) -> Result<(), PacketFault>
+    ensures { Asked (length_fault views length) result }
 {
-    if 8 <= length && length <= PACKET_BYTES && length % 4 == 0 {
-        None
+    if (8..=PACKET_BYTES).contains(&length) && length % 4 == 0 {
+        Ok(())
     } else {
-        Some(PacketFault::Length(length))
+        Err(PacketFault::Length(length))
     }
 }
 
-fn kind_fault(kind: u32) -> Option<PacketFault>
-    ensures { result ≡ kind_fault kind }
+// A report is for a view above 0.
+fn check_view(kind: Kind, view: u32) -> Result<(), PacketFault>
+    ensures { Asked (view_fault views (kind_word kind) view) result }
 {
-    if PUT <= kind && kind <= REPORT {
-        None
+    let least = u32::from(kind == Kind::Report);
+    if (least..VIEWS).contains(&view) {
+        Ok(())
     } else {
-        Some(PacketFault::Kind)
+        Err(PacketFault::View)
     }
 }
 
-fn view_fault(kind: u32, view: u32) -> Option<PacketFault>
-    ensures { result ≡ view_fault views kind view }
-{
-    let least = if kind == REPORT { 1 } else { 0 };
-    if view < VIEWS && least <= view {
-        None
-    } else {
-        Some(PacketFault::View)
-    }
+// A packet whose kind and view are known.
+#[derive(Clone, Copy)]
+pub(crate) struct Packet<'a> {
+    pub(crate) kind: Kind,
+    pub(crate) view: u32,
+    pub(crate) bytes: &'a [u8],
+    ghost of_kind: { kind_word kind ≡ kind_of bytes.now },
+    ghost for_view: { view ≡ view_of bytes.now },
 }
 
-// The questions on kind and view.
-fn head_fault(kind: u32, view: u32) -> Option<PacketFault>
-    ensures { result ≡ first (kind_fault kind) (view_fault views kind view) }
-{
-    let fault = kind_fault(kind);
-    if fault.is_some() {
-        fault
-    } else {
-        view_fault(kind, view)
+impl<'a> Packet<'a> {
+    // The packet, where length, kind and view are right.
+    pub(crate) fn open(bytes: &'a [u8]) -> Result<Packet<'a>, PacketFault>
+        ensures { MatchResult result (λ p. (head_fault views bytes.now ≡ None) × (p.bytes.now ≡ bytes.now)) (λ e. head_fault views bytes.now ≡ Some e) }
+    {
+        check_length(bytes.len())?;
+        let kind = Kind::try_from(word_at(bytes, 0))?;
+        let view = word_at(bytes, 4);
+        check_view(kind, view)?;
+        Ok(Packet { kind, view, bytes })
     }
-}
 
-fn count_fault(kind: u32, view: u32, bytes: &[u8]) -> Option<PacketFault>
-    ensures { result ≡ count_fault kind view bytes.now }
-{
-    if kind != REPORT || ENTRIES_OFFSET <= bytes.len() && word_at(bytes, 8) == view {
-        None
-    } else {
-        Some(PacketFault::Count)
-    }
-}
-
-// The packet ends at an offset.
-fn end_fault(bytes: &[u8], at: usize) -> Option<PacketFault>
-    ensures { result ≡ ends_at bytes.now at }
-{
-    let length = bytes.len();
-    if length < at {
-        return Some(PacketFault::Shape(length));
-    }
-    if length == at {
-        None
-    } else {
-        Some(PacketFault::Shape(at))
-    }
-}
-
-// A presence word, with its row where it is 1.
-fn entry_shape(bytes: &[u8], at: usize) -> Option<PacketFault>
-    requires { at + 28 < 2 ^ 64 }
-    ensures { result ≡ entry_shape bytes.now at }
-{
-    let length = bytes.len();
-    if length < at + 4 {
-        return Some(PacketFault::Shape(length));
-    }
-    match word_at(bytes, at) {
-        0 => None,
-        1 => if at + 28 <= length {
-            None
-        } else {
-            Some(PacketFault::Shape(length))
-        },
-        _ => Some(PacketFault::Shape(at)),
-    }
-}
-
-// A report's entries, and then its end.
-fn entries_shape(bytes: &[u8], count: u32) -> Option<PacketFault>
-    ensures { result ≡ entries_shape bytes.now count entries_offset }
-{
-    let mut at = ENTRIES_OFFSET;
-    for _k in 0..count {
-        let fault = entry_shape(bytes, at);
-        if fault.is_some() {
-            return fault;
+    // What follows kind and view: a row, or a put's ticket.
+    pub(crate) fn body(&self) -> Place<'a>
+        ensures { (result.bytes.now ≡ self.now.bytes.now) × (result.at ≡ 8) }
+    {
+        Place {
+            bytes: self.bytes,
+            at: 8,
         }
-        at = next_entry(bytes, at);
     }
-    end_fault(bytes, at)
-}
 
-fn shape_fault(kind: u32, view: u32, bytes: &[u8]) -> Option<PacketFault>
-    ensures { result ≡ shape_fault kind view bytes.now }
-{
-    match kind {
-        PUT => end_fault(bytes, 24),
-        ROW => end_fault(bytes, 32),
-        _ => entries_shape(bytes, view),
+    // A report's entries, from the first on.
+    pub(crate) fn entries(&self) -> Entries<'a>
+        ensures { (result.bytes.now ≡ self.now.bytes.now) × (result.at ≡ entries_offset) × (result.left ≡ self.now.view) }
+    {
+        Entries {
+            bytes: self.bytes,
+            at: ENTRIES_OFFSET,
+            left: self.view,
+        }
     }
-}
 
-// All the questions on a packet whose first words are its kind and its view.
-pub(crate) fn packet_fault<T: Ticket>(
-    kind: u32,
-    view: u32,
-    bytes: &[u8],
-    quorums: u32,
-) -> Option<PacketFault>
-    requires { (kind ≡ kind_of bytes.now) × (view ≡ view_of bytes.now) }
-    ensures { result ≡ questioned views T.refuses quorums bytes.now }
-{
-    let length = length_fault(bytes.len());
-    if length.is_some() {
-        return length;
+    // A report's count is its view.
+    pub(crate) fn check_count(&self) -> Result<(), PacketFault>
+        ensures { Asked (count_fault (kind_word self.now.kind) self.now.view self.now.bytes.now) result }
+    {
+        if self.kind != Kind::Report
+            || self.bytes.len() >= ENTRIES_OFFSET && word_at(self.bytes, 8) == self.view
+        {
+            Ok(())
+        } else {
+            Err(PacketFault::Count)
+        }
     }
-    let head = head_fault(kind, view);
-    if head.is_some() {
-        return head;
+
+    // The packet ends at an offset, neither before nor after it.
+    fn check_end(&self, at: usize) -> Result<(), PacketFault>
+        ensures { Asked (ends_at self.now.bytes.now at) result }
+    {
+        let length = self.bytes.len();
+        if length == at {
+            Ok(())
+        } else {
+            Err(PacketFault::Shape(length.min(at)))
+        }
     }
-    let count = count_fault(kind, view, bytes);
-    if count.is_some() {
-        return count;
+
+    // Where the entry at an offset ends: after a presence word of 0, or after the row that a 1 promises.
+    fn entry_end(&self, at: usize) -> Result<usize, PacketFault>
+        ensures { MatchResult result (λ end. (entry_shape self.now.bytes.now at ≡ None) × (end ≡ next self.now.bytes.now at)) (λ e. entry_shape self.now.bytes.now at ≡ Some e) }
+    {
+        let length = self.bytes.len();
+        let left = length.saturating_sub(at);
+        match word_at(self.bytes, at) {
+            0 if left >= 4 => Ok(at + 4),
+            1 if left >= 28 => Ok(at + 28),
+            word if left >= 4 && word > 1 => Err(PacketFault::Shape(at)),
+            _ => Err(PacketFault::Shape(length)),
+        }
     }
-    let shape = shape_fault(kind, view, bytes);
-    if shape.is_some() {
-        return shape;
+
+    // A report's entries, and then the packet's end.
+    #[tactic(auto, using(crate::proofs::Walks::shape_more, crate::proofs::Walks::shape_end))]
+    fn check_entries(&self) -> Result<(), PacketFault>
+        ensures { Asked (entries_shape self.now.bytes.now self.now.view entries_offset) result }
+    {
+        let mut at = ENTRIES_OFFSET;
+        for _ in 0..self.view {
+            at = self.entry_end(at)?;
+        }
+        self.check_end(at)
     }
-    rows_fault::<T>(kind, view, bytes, quorums)
+
+    pub(crate) fn check_shape(&self) -> Result<(), PacketFault>
+        ensures { Asked (shape_fault (kind_word self.now.kind) self.now.view self.now.bytes.now) result }
+    {
+        match self.kind {
+            Kind::Put => self.check_end(24),
+            Kind::Row => self.check_end(32),
+            Kind::Report => self.check_entries(),
+        }
+    }
 }

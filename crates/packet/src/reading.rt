@@ -1,43 +1,43 @@
 // Reading a packet.
-ghost use Rattle.std.specs.Prelude.{◌≡◌, ℕ, ◌+◌, ◌<◌, Some, None, MatchResult};
+ghost use Rattle.std.specs.Prelude.{◌≡◌, Some, None, MatchResult};
 ghost use Rattle.base.specs.Limits.{views};
-ghost use Rattle.packet.specs.Questions.{questioned, packet_fault};
-ghost use Rattle.packet.specs.Said.{meaning, said_as, said_by, Borrows};
+ghost use Rattle.packet.specs.Questions.{packet_fault};
+ghost use Rattle.packet.specs.Said.{meaning, said_by, Borrows};
 
 use crate::fault::PacketFault;
+use crate::kind::Kind;
 use crate::message::{Message, Report};
-use crate::questions::{PUT, ROW, packet_fault};
-use crate::words::{row_at, writing_at};
+use crate::questions::Packet;
 use ticket::Ticket;
 
-// Asks the questions of a packet, and opens it.
-fn read_open<'a, T: Ticket>(bytes: &'a [u8], quorums: u32) -> Result<Message<'a>, PacketFault>
-    ensures { MatchResult result (λ m. (questioned views T.refuses quorums bytes.now ≡ None) × (meaning m ≡ said_as bytes.now) × Borrows bytes.now m) (λ e. questioned views T.refuses quorums bytes.now ≡ Some e) }
-{
-    let [k0, k1, k2, k3, v0, v1, v2, v3, rest @ ..] = bytes else {
-        return Err(PacketFault::Length(bytes.len()));
-    };
-    let kind = u32::from_be_bytes([*k0, *k1, *k2, *k3]);
-    let view = u32::from_be_bytes([*v0, *v1, *v2, *v3]);
-    if let Some(fault) = packet_fault::<T>(kind, view, bytes, quorums) {
-        return Err(fault);
-    }
-    match kind {
-        PUT => Ok(Message::Put {
-            view,
-            ticket: writing_at(bytes, 8),
-        }),
-        ROW => Ok(Message::Row {
-            view,
-            row: row_at(bytes, 8),
-        }),
-        _ => Ok(Message::Report(Report::after_head(view, rest))),
+impl<'a> Packet<'a> {
+    // What the packet says.
+    #[tactic(auto, unfolding(crate::specs::Said::said_by))]
+    fn message(&self) -> Message<'a>
+        ensures { (meaning result ≡ said_by self.now.bytes.now) × Borrows self.now.bytes.now result }
+    {
+        match self.kind {
+            Kind::Put => Message::Put {
+                view: self.view,
+                ticket: self.body().ticket(),
+            },
+            Kind::Row => Message::Row {
+                view: self.view,
+                row: self.body().row(),
+            },
+            Kind::Report => Message::Report(Report::in_packet(self.view, self.bytes)),
+        }
     }
 }
 
 // What a packet says, where tickets are of kind T and so many quorums are listed.
+#[tactic(auto, unfolding(crate::specs::Questions::packet_fault))]
 pub fn read<'a, T: Ticket>(bytes: &'a [u8], quorums: u32) -> Result<Message<'a>, PacketFault>
     ensures { MatchResult result (λ m. (packet_fault views T.refuses quorums bytes.now ≡ None) × (meaning m ≡ said_by bytes.now) × Borrows bytes.now m) (λ e. packet_fault views T.refuses quorums bytes.now ≡ Some e) }
 {
-    read_open::<T>(bytes, quorums)
+    let packet = Packet::open(bytes)?;
+    packet.check_count()?;
+    packet.check_shape()?;
+    packet.check_rows::<T>(quorums)?;
+    Ok(packet.message())
 }

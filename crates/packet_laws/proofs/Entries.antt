@@ -5,7 +5,8 @@ use Rattle.std.proofs.lemmas.List.{drop_all}
 use Rattle.std.proofs.lemmas.Bool.{le-leb}
 use Rattle.std.proofs.lemmas.Bool.Decides.{nat_tests}
 use Rattle.packet.specs.Said.{row_at, present, next, entry_at, entries_at}
-use Rattle.packet.specs.Questions.{first, unless, ends_at, entry_shape, entries_shape, entry_fault, entries_fault, ticket_with, ticket_fault, set_fault, mark_fault, listed, mark_fits}
+use Rattle.base.specs.Asked.{first}
+use Rattle.packet.specs.Questions.{unless, ends_at, entry_shape, entries_shape, entry_fault, entries_fault, ticket_with, ticket_fault, set_fault, mark_fault, listed, mark_fits}
 use Rattle.packet.specs.declared.fault.PacketFault.{PacketFault}
 use Rattle.packet.specs.declared.fault.PacketFault.TheVariants.{Shape}
 use Rattle.rows.specs.declared.row.Row.{Row}

@@ -9,7 +9,8 @@ use Rattle.std.proofs.lemmas.Bool.Decides.{nat_tests}
 use Rattle.packet.specs.declared.message.Message.{Message}
 use Rattle.packet.specs.declared.message.Message.TheVariants as messages
 use Rattle.packet.specs.Said.{Said, meaning, Borrows, says_put, says_row, says_report, kind_of, view_of, row_at, entries_at, said_by}
-use Rattle.packet.specs.Questions.{first, unless, length_fault, kind_fault, view_fault, count_fault, shape_fault, rows_fault, packet_fault, ticket_with}
+use Rattle.base.specs.Asked.{first}
+use Rattle.packet.specs.Questions.{unless, length_fault, kind_fault, view_fault, count_fault, shape_fault, rows_fault, packet_fault, ticket_with}
 use Rattle.packet.specs.declared.fault.PacketFault.{PacketFault}
 use Rattle.packet.specs.declared.fault.PacketFault.TheVariants.{Shape}
 use Rattle.rows.specs.declared.row.Row.{Row}

@@ -4,7 +4,7 @@
 ghost use Rattle.std.specs.Prelude.{◌≡◌, Some, None, MatchResult, ◌≢◌};
 ghost use Rattle.base.specs.Limits.{views};
 ghost use Rattle.packet.specs.Questions.{packet_fault};
-ghost use Rattle.packet.specs.Said.{Said, meaning, said_by, Borrows};
+ghost use Rattle.packet.specs.Said.{Said, meaning};
 ghost use Rattle.packet_laws.specs.Within.{Within};
 ghost use Rattle.packet_write.specs.Writes.{writing, Wrote};
 
@@ -12,20 +12,13 @@ use packet::{Message, PacketFault};
 use packet_write::write;
 use ticket::Ticket;
 
-// Reads a packet, with no more promised than `packet::read` does.
-fn read<'a, T: Ticket>(bytes: &'a [u8], quorums: u32) -> Result<Message<'a>, PacketFault>
-    ensures { MatchResult result (λ m. (packet_fault views T.refuses quorums bytes.now ≡ None) × (meaning m ≡ said_by bytes.now) × Borrows bytes.now m) (λ e. packet_fault views T.refuses quorums bytes.now ≡ Some e) }
-{
-    packet::read::<T>(bytes, quorums)
-}
-
 // Reads a packet. What a message within the bounds is written as gives that message back, and a packet is accepted
 // exactly if it is what some message within the bounds is written as.
 pub fn read_back<'a, T: Ticket>(bytes: &'a [u8], quorums: u32) -> Result<Message<'a>, PacketFault>
     ensures back { (m : Said) → Within views T.refuses quorums m → writing m ≡ bytes.now → MatchResult result (λ x. meaning x ≡ m) (λ _. ⊥) }
     ensures exactly { MatchResult result (λ x. Within views T.refuses quorums (meaning x) × (writing (meaning x) ≡ bytes.now)) (λ _. (m : Said) → Within views T.refuses quorums m → writing m ≢ bytes.now) }
 {
-    read::<T>(bytes, quorums)
+    packet::read::<T>(bytes, quorums)
 }
 
 // Reads a packet and writes its message: the same bytes come back, where there is room for them.
@@ -36,8 +29,6 @@ pub fn rewrite<T: Ticket>(
 ) -> Result<Option<usize>, PacketFault>
     ensures { MatchResult result (λ n. (packet_fault views T.refuses quorums bytes.now ≡ None) × Wrote bytes.now out.old out.new n) (λ e. (packet_fault views T.refuses quorums bytes.now ≡ Some e) × (out.new ≡ out.old)) }
 {
-    match read::<T>(bytes, quorums) {
-        Ok(message) => Ok(write(message, out)),
-        Err(fault) => Err(fault),
-    }
+    let message = packet::read::<T>(bytes, quorums)?;
+    Ok(write(message, out))
 }

@@ -1,34 +1,35 @@
 // What the tests share.
 use base::Fault;
 use packet::read;
+use std::alloc::{AllocError, Global};
+use std::process::Abort;
+use std::test::Fail;
 use ticket::Ticket;
 
-// Words laid out as bytes, high byte first; at most 64 of them.
-pub(crate) fn laid_out(words: &[u32]) -> [u8; 256] {
-    let mut bytes = [0; 256];
-    let mut k = 0;
-    for word in words {
-        let [a, b, c, d] = word.to_be_bytes();
-        if k < 64 {
-            bytes[4 * k] = a;
-            bytes[4 * k + 1] = b;
-            bytes[4 * k + 2] = c;
-            bytes[4 * k + 3] = d;
-            k += 1;
-        }
-    }
-    bytes
+// Words laid out as bytes, high byte first.
+pub(crate) fn laid_out(alloc: Global, words: &[u32]) -> Result<Vec<u8>, AllocError> {
+    words
+        .iter()
+        .flat_map(|word| word.to_be_bytes())
+        .collect(alloc)
 }
 
-// The number and the place of the fault that the first bytes of these words give, or two zeros where they are read.
-pub(crate) fn told<T: Ticket>(words: &[u32], length: usize, quorums: u32) -> (u32, usize) {
-    let bytes = laid_out(words);
-    let length = if length < 256 { length } else { 255 };
-    match read::<T>(&bytes[0..length], quorums) {
-        Ok(_) => (0, 0),
-        Err(fault) => {
-            let code = fault.code();
-            (code.number, code.place)
-        }
+// A packet and what is told of it: its words, cut or filled with zeros to a length, and the number and the place of its
+// fault, or nothing where it is read.
+pub(crate) type Case<'a> = (&'a str, &'a [u32], usize, Option<(u32, usize)>);
+
+// Each packet is told of as its case says.
+pub(crate) fn check<T: Ticket>(
+    rt: &(impl Abort + AllocGlobal),
+    quorums: u32,
+    cases: &[Case<'_>],
+) -> Result<(), Fail> {
+    for (name, words, length, told) in cases {
+        let mut bytes = laid_out(rt.alloc(), words)?;
+        bytes.resize(*length, 0)?;
+        let fault = read::<T>(&bytes, quorums).err();
+        let code = fault.map(|fault| fault.code());
+        assert_eq!(rt; code.map(|code| (code.number, code.place)), *told, "{name}");
     }
+    Ok(())
 }

@@ -1,3 +1,2 @@
-pub mod Over
-pub mod Entries
 pub mod Lengths
+pub mod Over

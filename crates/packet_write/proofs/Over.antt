@@ -1,76 +1,42 @@
--- Bytes laid over others, one part after another.
-use Rattle.std.proofs.Common.{◌≡◌, ℕ, ◌+◌, ◌≤◌, List, [], ◌++◌, length, take, drop, Some, sym, refl, ap, ◌∙◌, ap₂, add-zero, add_assoc, zero-add, arith, length-drop}
+-- Bytes laid over others, one piece after another.
+use Rattle.std.proofs.Common.{◌≡◌, ℕ, ◌+◌, ◌*◌, ◌<◌, ◌≤◌, List, [], ◌∷◌, ◌++◌, length, get_or, take, drop, sym, refl, ap, ◌∙◌, arith, zero-add}
 use borrow.Rule.Slice.PartMut.{put_mid}
-use Rattle.std.proofs.lemmas.List.{append_assoc, length-append, length-take-le, take_at, drop-drop, drop_at, take-append-drop}
-use Rattle.packet.specs.Said.{report_kind}
-use Rattle.packet_write.specs.Writes.{over, head_bytes, report_bytes, Wrote}
+use Rattle.std.specs.List.{flat_map}
+use Rattle.std.proofs.lemmas.List.{take_more, append-nil, length-append}
+use Rattle.std.proofs.lemmas.List.Concat.{flat_map-append}
+use Rattle.std.proofs.lemmas.List.Edits.{paste-paste, paste_all}
+use Rattle.std.proofs.lemmas.List.Folds.{length-flat_map-take}
+use Rattle.std.proofs.lemmas.Slice.{put_mid-paste}
+use Rattle.std.proofs.Math.Seq.{paste}
 use Rattle.ticket.specs.Words.{be}
+use Rattle.packet_write.specs.Writes.{over}
 
-pub length_over : (old bs : List ℕ) (i : ℕ) → i + length bs ≤ length old → length (over old i bs) ≡ length old
-unfolding over
-length_over old bs i h =
-    let f : i ≤ length old = omega arith in
-    simp (length-append, length-drop, length-take-le) (omega arith)
+pub over_mid : (old new bs : List ℕ) (i k : ℕ) → new ≡ bs → k ≡ length bs → put_mid i k old new ≡ over old i bs
+over_mid old new bs i k e n = put_mid-paste i k old new bs (length bs) e (sym n) refl
 
--- the front of what was laid over
-take_over : (old a : List ℕ) (i : ℕ) → i ≤ length old → take (i + length a) (over old i a) ≡ take i old ++ a
-unfolding over
-take_over old a i h =
-    let e : length (take i old ++ a) ≡ i + length a = length-append (take i old) a ∙ ap (λ n. n + length a) (length-take-le i old h) in
-    ap (take (i + length a)) (sym (append_assoc (take i old) a (drop (i + length a) old))) ∙ take_at (take i old ++ a) (drop (i + length a) old) (i + length a) e
-
--- what lies behind it
-drop_over : (old a : List ℕ) (i n : ℕ) → i ≤ length old → drop (i + length a + n) (over old i a) ≡ drop (i + length a + n) old
-unfolding over
-drop_over old a i n h =
-    let e : length (take i old ++ a) ≡ i + length a = length-append (take i old) a ∙ ap (λ n. n + length a) (length-take-le i old h) in
-    sym (drop-drop n (i + length a) (over old i a))
-    ∙ ap (λ (l : List ℕ). drop n (drop (i + length a) l)) (sym (append_assoc (take i old) a (drop (i + length a) old)))
-    ∙ ap (drop n) (drop_at (take i old ++ a) (drop (i + length a) old) (i + length a) e)
-    ∙ drop-drop n (i + length a) old
-
--- one part after another is both together
+-- one piece after another is both together
 pub over_more : (old a b : List ℕ) (i j : ℕ) → i ≤ length old → j ≡ i + length a → over (over old i a) j b ≡ over old i (a ++ b)
-unfolding over
 over_more old a b i j h e =
-    ap (λ n. over (over old i a) n b) e
-    ∙ ap₂ (λ (x y : List ℕ). x ++ (b ++ y)) (take_over old a i h) (drop_over old a i (length b) h)
-    ∙ append_assoc (take i old) a (b ++ drop (i + length a + length b) old)
-    ∙ ap (λ (x : List ℕ). take i old ++ x) (sym (append_assoc a b (drop (i + length a + length b) old)))
-    ∙ ap (λ n. take i old ++ ((a ++ b) ++ drop n old)) (add_assoc i (length a) (length b) ∙ ap (λ n. i + n) (sym (length-append a b)))
+    ap (λ n. over (over old i a) n b) e ∙ paste-paste old i a b (length a) (length b) refl refl h
+    ∙ ap (λ n. paste old i (a ++ b) n) (sym (length-append a b))
 
-pub over_mid : (old new bs : List ℕ) (i k : ℕ) → k ≡ length bs → new ≡ bs → put_mid i k old new ≡ over old i bs
-unfolding over
-over_mid old new bs i k e f = ap₂ (λ n (l : List ℕ). put_mid i n old l) e f ∙ ap (λ (x : List ℕ). take i old ++ (bs ++ x)) (drop-drop (length bs) i old)
-
--- two parts and three parts, as calls put them
-pub over_two : (old o1 o2 a b : List ℕ) (i j : ℕ) → i ≤ length old → o1 ≡ over old i a → o2 ≡ over o1 j b → j ≡ i + length a → o2 ≡ over old i (a ++ b)
-over_two old o1 o2 a b i j h e f q = f ∙ ap (λ (l : List ℕ). over l j b) e ∙ over_more old a b i j h q
-
-pub over_three :
-    (old o1 o2 o3 a b c : List ℕ) (i j k : ℕ) → i ≤ length old → o1 ≡ over old i a → o2 ≡ over o1 j b → o3 ≡ over o2 k c → j ≡ i + length a → k ≡ i + length (a ++ b) → o3 ≡ over old i (a ++ (b ++ c))
-over_three old o1 o2 o3 a b c i j k h e f g q r =
-    over_two old o2 o3 (a ++ b) c i k h (over_two old o1 o2 a b i j h e f q) g r ∙ ap (over old i) (append_assoc a b c)
-
--- at the front
 pub over_front : (old bs : List ℕ) → over old 0 bs ≡ bs ++ drop (length bs) old
-unfolding over
-over_front old bs = ap (λ n. bs ++ drop n old) (zero-add (length bs))
+over_front old bs = paste_all old 0 bs (length bs) refl ∙ ap (λ n. bs ++ drop n old) (zero-add (length bs))
 
--- nothing laid over
-pub over_none : (old : List ℕ) (i : ℕ) → over old i [] ≡ old
-unfolding over
-over_none old i = ap (λ n. take i old ++ drop n old) (add-zero i) ∙ take-append-drop i old
+-- the pieces of a list's items
+module _ {X : Type 0} (f : X → List ℕ) (xs : List X) (i : ℕ) (d : X) where
+  pub piece_more : i < length xs → flat_map f (take (i + 1) xs) ≡ flat_map f (take i xs) ++ f (get_or xs i d)
+  piece_more h = ap (flat_map f) (take_more xs i d h) ∙ flat_map-append f (take i xs) (get_or xs i d ∷ []) ∙ ap (λ (l : List ℕ). flat_map f (take i xs) ++ l) (append-nil (f (get_or xs i d)))
 
--- a report in its three parts
-pub wrote_report :
-    (old o1 o2 o3 es fs : List ℕ) (v w n : ℕ) → w ≡ v → fs ≡ es → 12 + length es ≤ length old → n ≡ 12 + length es → o1 ≡ over old 0 (head_bytes report_kind w) → o2 ≡ over o1 8 (be w) → o3 ≡ over o2 12 fs
-    → Wrote (report_bytes v es) old o3 (Some n)
-wrote_report old o1 o2 o3 es fs v w n vw ff h e p q r = (
-  omega arith,
-  omega arith,
-  over_two old o2 o3 (head_bytes report_kind v ++ be v) es 0 12 (omega arith)
-      (over_two old o1 o2 (head_bytes report_kind v) (be v) 0 8 (omega arith) (p ∙ ap (λ x. over old 0 (head_bytes report_kind x)) vw) (q ∙ ap (λ x. over o1 8 (be x)) vw) refl)
-      (r ∙ ap (over o2 12) ff) refl
-      ∙ over_front old _,
-)
+  pub piece_length : i < length xs → length (flat_map f (take (i + 1) xs)) ≡ length (flat_map f (take i xs)) + length (f (get_or xs i d))
+  piece_length h = ap length (piece_more h) ∙ length-append (flat_map f (take i xs)) (f (get_or xs i d))
+
+  pub piece_over : (old : List ℕ) (at end : ℕ) → i < length xs → at ≤ length old → end ≡ at + length (flat_map f (take i xs)) → over (over old at (flat_map f (take i xs))) end (f (get_or xs i d)) ≡ over old at (flat_map f (take (i + 1) xs))
+  piece_over old at end h low e = over_more old (flat_map f (take i xs)) (f (get_or xs i d)) at end low e ∙ ap (over old at) (sym (piece_more h))
+
+  pub piece_fits : i < length xs → length (flat_map f (take i xs)) + length (f (get_or xs i d)) ≤ length (flat_map f xs)
+  piece_fits h = length-flat_map-take f xs i d h
+
+pub words_length : (ws : List ℕ) → length (flat_map be ws) ≡ 4 * length ws
+words_length [] = refl
+words_length (w ∷ ws) = let more = words_length ws in omega arith

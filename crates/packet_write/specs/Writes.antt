@@ -1,12 +1,14 @@
 -- How a message is written, and what a write leaves in the caller's bytes.
-use Rattle.std.specs.Prelude.{◌≡◌, ℕ, ◌+◌, ◌<◌, ◌≤◌, Bool, cond, List, [], ◌∷◌, ◌++◌, length, take, drop, Some, None, Option}
-use Rattle.packet.specs.Said.{Said, says_put, says_row, says_report, put_kind, row_kind, report_kind}
+use Rattle.std.specs.Prelude.{◌≡◌, ℕ, ◌<◌, ◌≤◌, Bool, cond, List, ◌++◌, length, drop, Some, None, Option}
+use Rattle.std.proofs.Math.Seq.{paste}
+use Rattle.std.specs.List.{flat_map}
+use Rattle.packet.specs.Kinds.{put_kind, row_kind, report_kind}
+use Rattle.packet.specs.Said.{Said, says_put, says_row, says_report}
 use Rattle.packet.specs.declared.message.Message.{Message}
 use Rattle.packet.specs.declared.message.Message.TheVariants as messages
 use Rattle.rows.specs.declared.row.Row.{Row}
 use Rattle.ticket.specs.Words.{be}
 use Rattle.ticket.specs.Writings.{bytes_of}
-use Rattle.ticket.specs.declared.writing.Writing.{Writing}
 
 -- a mark is 1, none is 0
 abbrev pub mark_word : Bool → ℕ
@@ -22,8 +24,7 @@ entry_bytes None = be 0
 entry_bytes (Some r) = be 1 ++ row_bytes r
 
 unfoldable pub entries_bytes : List (Option Row) → List ℕ
-entries_bytes [] = []
-entries_bytes (e ∷ es) = entry_bytes e ++ entries_bytes es
+entries_bytes es = flat_map entry_bytes es
 
 -- kind and view
 abbrev pub head_bytes : ℕ → ℕ → List ℕ
@@ -33,31 +34,21 @@ head_bytes kind view = be kind ++ be view
 abbrev pub report_bytes : ℕ → List ℕ → List ℕ
 report_bytes view entries = (head_bytes report_kind view ++ be view) ++ entries
 
-abbrev pub put_bytes : ℕ → Writing → List ℕ
-put_bytes view ticket = head_bytes put_kind view ++ bytes_of ticket
-
-abbrev pub row_packet : ℕ → Row → List ℕ
-row_packet view row = head_bytes row_kind view ++ row_bytes row
-
 -- the writing of what is said
 unfoldable pub writing : Said → List ℕ
-writing (says_put v t) = put_bytes v t
-writing (says_row v r) = row_packet v r
+writing (says_put v t) = head_bytes put_kind v ++ bytes_of t
+writing (says_row v r) = head_bytes row_kind v ++ row_bytes r
 writing (says_report v es) = report_bytes v (entries_bytes es)
 
--- the bytes of a message; a borrowed report has its entries' bytes already
-abbrev pub laid_out : Message → List ℕ
-laid_out (messages.Put v t) = put_bytes v t
-laid_out (messages.Row v r) = row_packet v r
-laid_out (messages.Report r) = report_bytes r.view r.entries.now
-
--- the writing of a message
+-- the writing of a message; a borrowed report has its entries' bytes already
 unfoldable pub written : Message → List ℕ
-written m = laid_out m
+written (messages.Put v t) = writing (says_put v t)
+written (messages.Row v r) = writing (says_row v r)
+written (messages.Report r) = report_bytes r.view r.entries.now
 
 -- bytes laid over others from an offset on
-unfoldable pub over : List ℕ → ℕ → List ℕ → List ℕ
-over old i bs = take i old ++ (bs ++ drop (i + length bs) old)
+abbrev pub over : List ℕ → ℕ → List ℕ → List ℕ
+over old i bs = paste old i bs (length bs)
 
 -- a write of bytes to the front of a caller's: the length where they fit, else nothing; the rest of the caller's bytes is kept
 abbrev pub Wrote : List ℕ → List ℕ → List ℕ → Option ℕ → Type 0

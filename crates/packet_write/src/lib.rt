@@ -1,4 +1,4 @@
-// Writing packets, and the laws of reading and writing.
+// Writing packets.
 #![tactic(auto)]
 
 mod putting;

@@ -1,7 +1,8 @@
 use Rattle.std.proofs.Common.{◌≡◌, ◌+◌, length, take}
-use Rattle.packet_write.specs.Writes.{entries_bytes, over}
+use Rattle.std.specs.List.{flat_map}
+use Rattle.packet_write.specs.Writes.{entry_bytes, over}
 use Rattle.packet_write.proofs.putting.put_entries.Given as goal
 
-abbrev pub invariant-loop-k : goal.invariant-loop-k
-invariant-loop-k l =
-    (l.at ≡ 12 + length (entries_bytes (take l.k l.rows))) × (l.out ≡ over l.initial.out 12 (entries_bytes (take l.k l.rows)))
+abbrev pub invariant-loop-row : goal.invariant-loop-row
+invariant-loop-row l =
+    (l.end ≡ l.at + length (flat_map entry_bytes (take l.row-index l.rows))) × (l.out ≡ over l.initial.out l.at (flat_map entry_bytes (take l.row-index l.rows)))

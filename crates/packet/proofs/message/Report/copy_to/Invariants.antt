@@ -1,6 +1,8 @@
-use Rattle.std.proofs.Common.{◌≡◌, ℕ, ◌<◌, get_or, None}
-use Rattle.packet.specs.Said.{entries_of}
+use Rattle.std.proofs.Common.{◌≡◌, length, ◌-◌, ◌++◌, take}
+use Rattle.packet.specs.Said.{entries_of, padded}
+use Rattle.packet.proofs.Walks.{entries_left}
 use Rattle.packet.proofs.message.Report.copy_to.Given as goal
 
-abbrev pub invariant-loop-k : goal.invariant-loop-k
-invariant-loop-k l = (j : ℕ) → j < l.k → get_or l.rows j None ≡ get_or (entries_of l.self) j None
+abbrev pub invariant-loop-row : goal.invariant-loop-row
+invariant-loop-row l =
+    take l.row-index l.rows ++ padded (length l.initial.rows - l.row-index) (entries_left l.entries) ≡ padded (length l.initial.rows) (entries_of l.self)
