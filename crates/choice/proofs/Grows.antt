@@ -1,5 +1,5 @@
 -- The choice over more and more rows.
-use Rattle.std.proofs.Common.{◌≡◌, ℕ, ◌+◌, ◌<◌, ◌⊎◌, Some, Option, sym, refl, ◌∙◌, subst, inl, inr, arith}
+use Rattle.std.proofs.Common.{◌≡◌, ℕ, ◌+◌, ◌<◌, ◌⊎◌, Some, None, Option, sym, refl, ◌∙◌, subst, inl, inr, arith}
 use native.Mathlib.Decide.{ℕ_discrete}
 use Rattle.table.specs.Tables.{QuorumTable, In}
 use Rattle.ticket.specs.declared.writing.Writing.{Writing}
@@ -58,24 +58,31 @@ module _ (tb : QuorumTable) (q : ℕ) (kept : Grid) (w v x : ℕ) where
             (subst (λ z. LiveIn tb q kept w u t × In tb q z × Holds (cell kept u z) (For t)) ey k))
       ]
 
-  -- a unit outside the quorum, or one with no row, adds nothing
-  pub skips : ((t : Writing) → Last t → ⊥) → (c : Choice Writing) → Chosen (Seen tb q kept w v x) c → Chosen (Seen tb q kept w v (x + 1)) c
-  skips none c k =
-      chosen_as (Seen tb q kept w v x) (Seen tb q kept w v (x + 1)) seen_more
-      (λ t s. elim (seen_last t s) [ inl l ↦ l | inr h ↦ absurd (none t h) ]) c k
+  module _ (c : Choice Writing) (k : Chosen (Seen tb q kept w v x) c) where
+    skips : ((t : Writing) → Last t → ⊥) → Chosen (Seen tb q kept w v (x + 1)) c
+    skips none =
+        chosen_as (Seen tb q kept w v x) (Seen tb q kept w v (x + 1)) seen_more
+        (λ t s. elim (seen_last t s) [ inl l ↦ l | inr h ↦ absurd (none t h) ]) c k
 
-  pub adds : (r : Row) (c d : Choice Writing) → Some r ≡ cell kept v x → In tb q x → WithTicket (LiveIn tb q kept w v r.ticket) c r.ticket d
-      → Chosen (Seen tb q kept w v x) c → Chosen (Seen tb q kept w v (x + 1)) d
-  adds r c d e i k =
-      chosen_with (Seen tb q kept w v x) (Seen tb q kept w v (x + 1)) r.ticket (LiveIn tb q kept w v r.ticket) seen_more
-      (λ l. seen_here r.ticket (l, i, subst (λ (o : Option Row). Holds o (For r.ticket)) e refl))
-      (λ t s. elim (seen_last t s) [
-        | inl l ↦ inl l
-        | inr h ↦
-            let et : r.ticket ≡ t = subst (λ (o : Option Row). Holds o (For t)) (sym e) h.2 in
-            inr (sym et, subst (LiveIn tb q kept w v) (sym et) h.0)
-      ])
-      c d k
+    -- a unit outside the quorum, or one with no row, adds nothing
+    pub outside : ¬ (In tb q x) → Chosen (Seen tb q kept w v (x + 1)) c
+    outside n = skips (λ t l. n l.1)
+
+    pub silent : cell kept v x ≡ None → Chosen (Seen tb q kept w v (x + 1)) c
+    silent e = skips (λ t l. subst (λ (o : Option Row). Holds o (For t)) e l.2)
+
+    pub adds : (r : Row) (d : Choice Writing) → In tb q x → cell kept v x ≡ Some r → WithTicket (LiveIn tb q kept w v r.ticket) c r.ticket d
+        → Chosen (Seen tb q kept w v (x + 1)) d
+    adds r d i e l =
+        chosen_with (Seen tb q kept w v x) (Seen tb q kept w v (x + 1)) r.ticket (LiveIn tb q kept w v r.ticket) seen_more
+        (λ live. seen_here r.ticket (live, i, subst (λ (o : Option Row). Holds o (For r.ticket)) (sym e) refl))
+        (λ t s. elim (seen_last t s) [
+          | inl h ↦ inl h
+          | inr h ↦
+              let et : r.ticket ≡ t = subst (λ (o : Option Row). Holds o (For t)) e h.2 in
+              inr (sym et, subst (LiveIn tb q kept w v) (sym et) h.0)
+        ])
+        c d l k
 
 module _ (tb : QuorumTable) (q : ℕ) (kept : Grid) (w v : ℕ) where
   -- all sixteen units of a view are the view
@@ -97,9 +104,9 @@ module _ (tb : QuorumTable) (q : ℕ) (kept : Grid) (w v : ℕ) where
       c k
 
   -- all views below w are the candidates
-  pub all_done : (c : Choice Writing) → Chosen (Seen tb q kept w w 0) c → Chosen (Candidate tb q kept w) c
-  all_done c k =
-      chosen_as (Seen tb q kept w w 0) (Candidate tb q kept w)
-      (λ t s. (s.0, elim s.1.1 [ inl l ↦ l | inr e ↦ absurd (let lt = e.1 in omega arith) ], s.1.2.0, (s.1.0, s.1.2.1, s.1.2.2)))
-      (λ t s. (s.0, (s.3.0, inl s.1, (s.2, s.3.1, s.3.2))))
+  pub all_done : v ≡ w → (c : Choice Writing) → Chosen (Seen tb q kept w v 0) c → Chosen (Candidate tb q kept w) c
+  all_done e c k =
+      chosen_as (Seen tb q kept w v 0) (Candidate tb q kept w)
+      (λ t s. (s.0, elim s.1.1 [ inl l ↦ omega arith | inr z ↦ absurd (let lt = z.1 in omega arith) ], s.1.2.0, (s.1.0, s.1.2.1, s.1.2.2)))
+      (λ t s. (s.0, (s.3.0, inl (let lt = s.1 in omega arith), (s.2, s.3.1, s.3.2))))
       c k

@@ -1,3 +1,4 @@
 pub mod Masks
 pub mod Grows
 pub mod Settles
+pub mod Backed

@@ -1,5 +1,5 @@
 -- The defined choice is the one choice among the candidates.
-use Rattle.std.proofs.Common.{◌≡◌, ℕ, ◌<◌, ◌≤◌, [], length, get_or, Option, sym, refl, ap, ◌∙◌, subst, inl, inr, arith}
+use Rattle.std.proofs.Common.{◌≡◌, ℕ, ◌<◌, min, [], length, get_or, Option, sym, refl, ap, ◌∙◌, subst, inl, inr, arith}
 use native.Mathlib.Decide.{dec_lt}
 use Rattle.std.proofs.lemmas.List.{get_or_past}
 use Rattle.sets.specs.Sets.{fault_at}
@@ -51,38 +51,38 @@ module _ (tb : QuorumTable) (q : ℕ) (kept : Grid) (w : ℕ) where
   pub the_choice : (c : Choice Writing) → Chosen (Candidate tb q kept w) c → c ≡ choice_of tb q kept w
   the_choice c k = chosen_one (Candidate tb q kept w) c (choice_of tb q kept w) k choice_is
 
--- views past the last that is reported add nothing
-module _ (tb : QuorumTable) (q : ℕ) (kept : Grid) (n w : ℕ) (long : length kept ≡ n) (past : n ≤ w) where
-  none_past : (v x : ℕ) (P : Row → Type 0) → Holds (cell kept v x) P → v < n
-  none_past v x P h =
+-- views past the last that is reported add nothing: m views of the w are asked
+module _ (tb : QuorumTable) (q : ℕ) (kept : Grid) (n w m : ℕ) (long : length kept ≡ n) (least : m ≡ min n w) where
+  none_past : (v x : ℕ) (P : Row → Type 0) → v < w → Holds (cell kept v x) P → v < m
+  none_past v x P lt h =
       elim (dec_lt v n) [
-        | yes l ↦ l
+        | yes l ↦ omega arith
         | no ge ↦
             let e = get_or_past kept v [] (omega arith) in
             absurd (subst (λ (o : Option Row). Holds o P) (ap (λ rows. row_in rows x) e) h)
       ]
 
-  later_up : (v : ℕ) (t : Writing) (x : ℕ) → Later kept n v t x → Later kept w v t x
+  later_up : (v : ℕ) (t : Writing) (x : ℕ) → Later kept m v t x → Later kept w v t x
   later_up v t x (u, a, b, h) = (u, a, omega arith, h)
 
-  later_down : (v : ℕ) (t : Writing) (x : ℕ) → Later kept w v t x → Later kept n v t x
-  later_down v t x (u, a, b, h) = (u, a, none_past u x _ h, h)
+  later_down : (v : ℕ) (t : Writing) (x : ℕ) → Later kept w v t x → Later kept m v t x
+  later_down v t x (u, a, b, h) = (u, a, none_past u x _ b h, h)
 
-  barred_up : (v : ℕ) (t : Writing) → Barred tb q kept n v t → Barred tb q kept w v t
+  barred_up : (v : ℕ) (t : Writing) → Barred tb q kept m v t → Barred tb q kept w v t
   barred_up v t (inl b) = inl b
   barred_up v t (inr b) = inr (λ k. b (k.0, k.1, λ x h. k.2 x (h.0, later_up v t x h.1)))
 
-  barred_down : (v : ℕ) (t : Writing) → Barred tb q kept w v t → Barred tb q kept n v t
+  barred_down : (v : ℕ) (t : Writing) → Barred tb q kept w v t → Barred tb q kept m v t
   barred_down v t (inl b) = inl b
   barred_down v t (inr b) = inr (λ k. b (k.0, k.1, λ x h. k.2 x (h.0, later_down v t x h.1)))
 
-  pub clipped : (c : Choice Writing) → c ≡ choice_of tb q kept n → c ≡ choice_of tb q kept w
-  clipped c e =
+  pub clipped : (c : Choice Writing) → Chosen (Candidate tb q kept m) c → c ≡ choice_of tb q kept w
+  clipped c k =
       the_choice tb q kept w c
-      (chosen_as (Candidate tb q kept n) (Candidate tb q kept w)
+      (chosen_as (Candidate tb q kept m) (Candidate tb q kept w)
       (λ t k. (k.0, (let lt = k.1 in omega arith), (k.2.0, λ b. k.2.1 (barred_down k.0 t b)), k.3))
-      (λ t k. (k.0, none_past k.0 k.3.0 _ k.3.2, (k.2.0, λ b. k.2.1 (barred_up k.0 t b)), k.3))
-      c (subst (Chosen (Candidate tb q kept n)) (sym e) (choice_is tb q kept n)))
+      (λ t k. (k.0, none_past k.0 k.3.0 _ k.1 k.3.2, (k.2.0, λ b. k.2.1 (barred_up k.0 t b)), k.3))
+      c k)
 
 pub choice_one : ChoiceIsOne
 choice_one tb q kept w = chosen_one (Live tb q kept w)

@@ -1,144 +1,101 @@
-// Whether a ticket is live, by masks.
-ghost use Rattle.std.specs.Prelude.{◌≡◌, ℕ, ◌<◌, ◌≤◌, length, Decides};
-ghost use Rattle.sets.specs.Sets.{Is};
-ghost use Rattle.table.specs.Tables.{quorum_at};
-ghost use Rattle.table.specs.Means.{listed};
-ghost use Rattle.rows.specs.Rows.{cell, Holds, Wanted};
+// What a quorum reports of a view, and whether a ticket is live by it, by masks.
+ghost use Rattle.std.specs.Prelude.{◌≡◌, ◌<◌, ◌≤◌, [], slice_index_or, Decides};
+ghost use Rattle.base.specs.Limits.{views};
+ghost use Rattle.sets.specs.Sets.{Has, Is, Basic};
+ghost use Rattle.table.specs.Tables.{In, quorum_at};
+ghost use Rattle.table.specs.Means.{means};
 ghost use Rattle.rows.specs.Rules.{Needed};
 ghost use Rattle.choice.specs.Reports.{AllBut, BackedBy, Backed, Later, Barred, LiveIn};
 
+use base::{UNIT_COUNT, VIEW_COUNT};
 use rows::{Row, Rule, Test, ranked, senders, test_of};
-use table::Table;
+use table::Passed;
 use ticket::Writing;
 
-// The units of the quorum at place q; none where no quorum is listed there.
-pub(crate) fn units_of(table: Table<'_>, q: u32) -> u16
-    ensures { result ≡ (quorum_at (listed table.entry) q).set }
-{
-    let q = q as usize;
-    if q < table.quorums.len() {
-        table.quorums[q].set
-    } else {
-        0
+// What the units of the quorum at a place report of an earlier view, for a view that chooses.
+// The rows of all reports come by view and sender.
+#[derive(Clone, Copy)]
+pub(crate) struct Reports<'a> {
+    pub(crate) passed: &'a Passed<'a>,
+    pub(crate) quorum: u32,
+    pub(crate) grid: &'a [[Option<Row>; UNIT_COUNT]; VIEW_COUNT],
+    pub(crate) earlier: usize,
+    pub(crate) view: usize,
+    ghost before: { earlier < view },
+    ghost within: { view ≤ views },
+}
+
+impl Reports<'_> {
+    // The rows of the earlier view, by sender.
+    pub(crate) fn rows(&self) -> &[Option<Row>; UNIT_COUNT]
+        ensures { result.now ≡ slice_index_or self.now.grid.now self.now.earlier [] }
+    {
+        &self.grid[self.earlier]
     }
-}
 
-// The units that report such a row in view v.
-fn reporters(grid: &[[Option<Row>; 16]; 8], v: usize, test: Test, ticket: Writing) -> u16
-    requires { v < 8 }
-    ensures { Is result (λ x. Holds (cell grid.now v x) (Wanted test ticket)) }
-{
-    senders(&grid[v], test, ticket)
-}
+    // The quorum's units.
+    pub(crate) fn units(&self) -> u16
+        ensures { result ≡ (quorum_at (means self.now.passed.now) self.now.quorum).set }
+    {
+        self.passed.units_of(self.quorum)
+    }
 
-// Outside some listed fault set, do all units of the quorums p and q report the ticket in view v as the rule asks?
-// What of the two quorums does not report so must be bearable.
-fn all_but(
-    table: Table<'_>,
-    q: u32,
-    grid: &[[Option<Row>; 16]; 8],
-    rule: Rule,
-    v: usize,
-    ticket: Writing,
-    p: usize,
-) -> bool
-    requires quorums_len_bound { length table.quorums.now ≤ 32 }
-    requires p_in_bounds { p < length table.quorums.now }
-    requires v_bound { v < 8 }
-    ensures { Decides result (AllBut (listed table.entry) q grid.now p v (Needed rule p ticket)) }
-{
-    let both = sets::shared(table.quorums[p].set, units_of(table, q));
-    let so = reporters(grid, v, test_of(rule, p as u32), ticket);
-    sets::bearable(table.faults, sets::without(both, so))
-}
+    // Outside some listed fault set, do all units of this quorum and the one at place p report the ticket as the rule asks?
+    // What of the two quorums does not report so must be bearable.
+    fn all_but(&self, rule: Rule, p: u32, ticket: Writing) -> bool
+        ensures { Decides result (AllBut (means self.now.passed.now) self.now.quorum self.now.grid.now p self.now.earlier (Needed rule p ticket)) }
+    {
+        let both = sets::shared(self.passed.units_of(p), self.units());
+        let so = senders(self.rows(), test_of(rule, p), ticket);
+        self.passed.bearable(sets::without(both, so))
+    }
 
-fn backed_by(
-    table: Table<'_>,
-    q: u32,
-    grid: &[[Option<Row>; 16]; 8],
-    rule: Rule,
-    v: usize,
-    ticket: Writing,
-) -> bool
-    requires quorums_len_bound { length table.quorums.now ≤ 32 }
-    requires v_bound { v < 8 }
-    ensures { Decides result (BackedBy (listed table.entry) q grid.now rule v ticket) }
-{
-    for p in 0..table.quorums.len() {
-        if ranked(rule, table.quorums[p].class) && all_but(table, q, grid, rule, v, ticket, p) {
-            return true;
+    fn backed_by(&self, rule: Rule, ticket: Writing) -> bool
+        ensures { Decides result (BackedBy (means self.now.passed.now) self.now.quorum self.now.grid.now rule self.now.earlier ticket) }
+    {
+        self.passed.quorums().iter().enumerate().any(|(p, quorum)| {
+            ranked(rule, quorum.class) && self.all_but(rule, p as u32, ticket)
+        })
+    }
+
+    fn backed(&self, ticket: Writing) -> bool
+        ensures { Decides result (Backed (means self.now.passed.now) self.now.quorum self.now.grid.now self.now.earlier ticket) }
+    {
+        [Rule::First, Rule::Second, Rule::Third]
+            .iter()
+            .any(|rule| self.backed_by(*rule, ticket))
+    }
+
+    // The units that report another ticket in a view after the earlier one and below the one that chooses.
+    fn later(&self, ticket: Writing) -> u16
+        ensures { Is result (Later self.now.grid.now self.now.view self.now.earlier ticket) }
+    {
+        let grid = self.grid;
+        let mut mask: u16 = 0;
+        for rows in &grid[self.earlier + 1..self.view] {
+            mask = sets::joined(mask, senders(rows, Test::Other, ticket));
         }
+        mask
     }
-    false
-}
 
-fn backed(
-    table: Table<'_>,
-    q: u32,
-    grid: &[[Option<Row>; 16]; 8],
-    v: usize,
-    ticket: Writing,
-) -> bool
-    requires quorums_len_bound { length table.quorums.now ≤ 32 }
-    requires v_bound { v < 8 }
-    ensures { Decides result (Backed (listed table.entry) q grid.now v ticket) }
-{
-    if backed_by(table, q, grid, Rule::First, v, ticket) {
-        return true;
+    // Is the part of the quorum that is in the set basic?
+    fn basic_part(&self, set: u16) -> bool
+        ensures { Decides result (Basic (means self.now.passed.now).faults (λ x. In (means self.now.passed.now) self.now.quorum x × Has set x)) }
+    {
+        self.passed.basic(sets::shared(self.units(), set))
     }
-    if backed_by(table, q, grid, Rule::Second, v, ticket) {
-        return true;
-    }
-    backed_by(table, q, grid, Rule::Third, v, ticket)
-}
 
-// The units that report another ticket in a view after v and below w.
-fn later(grid: &[[Option<Row>; 16]; 8], w: usize, v: usize, ticket: Writing) -> u16
-    requires w_bound { w ≤ 8 }
-    requires v_lt_w { v < w }
-    ensures { Is result (Later grid.now w v ticket) }
-{
-    let mut mask: u16 = 0;
-    for u in v + 1..w {
-        mask = sets::joined(mask, reporters(grid, u, Test::Other, ticket));
+    fn barred(&self, ticket: Writing) -> bool
+        ensures { Decides result (Barred (means self.now.passed.now) self.now.quorum self.now.grid.now self.now.view self.now.earlier ticket) }
+    {
+        let rivals = senders(self.rows(), Test::OtherFilled, ticket);
+        self.basic_part(rivals) || self.basic_part(self.later(ticket))
     }
-    mask
-}
 
-fn barred(
-    table: Table<'_>,
-    q: u32,
-    grid: &[[Option<Row>; 16]; 8],
-    w: usize,
-    v: usize,
-    ticket: Writing,
-) -> bool
-    requires w_bound { w ≤ 8 }
-    requires v_lt_w { v < w }
-    ensures { Decides result (Barred (listed table.entry) q grid.now w v ticket) }
-{
-    let units = units_of(table, q);
-    let rivals = reporters(grid, v, Test::OtherFilled, ticket);
-    if sets::basic(table.faults, sets::shared(units, rivals)) {
-        return true;
+    // Is the ticket live by its rows in the earlier view?
+    pub(crate) fn live(&self, ticket: Writing) -> bool
+        ensures { Decides result (LiveIn (means self.now.passed.now) self.now.quorum self.now.grid.now self.now.view self.now.earlier ticket) }
+    {
+        self.backed(ticket) && !self.barred(ticket)
     }
-    let moved = later(grid, w, v, ticket);
-    sets::basic(table.faults, sets::shared(units, moved))
-}
-
-// Is the ticket live for view w by its rows in view v?
-pub(crate) fn live_in(
-    table: Table<'_>,
-    q: u32,
-    grid: &[[Option<Row>; 16]; 8],
-    w: usize,
-    v: usize,
-    ticket: Writing,
-) -> bool
-    requires quorums_len_bound { length table.quorums.now ≤ 32 }
-    requires w_bound { w ≤ 8 }
-    requires v_lt_w { v < w }
-    ensures { Decides result (LiveIn (listed table.entry) q grid.now w v ticket) }
-{
-    backed(table, q, grid, v, ticket) && !barred(table, q, grid, w, v, ticket)
 }

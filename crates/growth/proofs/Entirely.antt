@@ -1,16 +1,16 @@
 -- Quorums heard entire, as masks.
-use Rattle.std.proofs.Common.{◌≡◌, ℕ, suc, ◌+◌, ◌*◌, ◌%◌, ◌^◌, ◌<◌, Bool, true, Decides, Option, sym, refl, ap, ◌∙◌, add-one}
+use Rattle.std.proofs.Common.{◌≡◌, ℕ, suc, ◌+◌, ◌*◌, ◌%◌, ◌^◌, ◌<◌, Bool, Decides, Option, sym, refl, ap, ◌∙◌, add-one}
 use lib.Bits.{bit_or}
 use Rattle.std.proofs.lemmas.Nat.{one_shl}
 use Rattle.std.proofs.lemmas.Bool.Decides.{Decides-like}
 use Rattle.sets.specs.Sets.{Has, Is, Inside}
 use Rattle.sets.specs.Decisions.{pick}
-use Rattle.table.specs.Tables.{QuorumTable, quorum_at}
+use Rattle.table.specs.Tables.{QuorumTable, IsQuorum, quorum_at, In}
 use Rattle.ticket.specs.declared.writing.Writing.{Writing}
 use Rattle.rows.specs.declared.row.Row.{Row}
-use Rattle.rows.specs.Rows.{Holds, For}
+use Rattle.rows.specs.Rows.{Holds, For, ForFilled}
 use Rattle.rows.specs.Decided.{for?}
-use Rattle.growth.specs.Growth.{Entire, entire?, places_below, grown_set, Spread, mark?, grown}
+use Rattle.growth.specs.Growth.{Entire, entire?, places_below, Spread}
 
 -- which value a decision picks
 pub pick_yes : {A B : Type 0} (d : Dec A) (x y : B) → A → pick d x y ≡ x
@@ -26,6 +26,11 @@ module _ (tb : QuorumTable) (h : ℕ → Option Row) where
   pub entire_tells : (p m : ℕ) (P : Row → Type 0) → Is m (λ x. Holds (h x) P) → (r : Bool)
       → Decides r (Inside (Has (quorum_at tb p).set) (Has m)) → Decides r (Entire tb h p P)
   entire_tells p m P is r = Decides-like r (λ i x k. (is x).0 (i x k)) (λ e x k. (is x).1 (e x k))
+
+  -- a quorum inside the mask of those heard with the ticket and a set was heard entire with them
+  pub some_spread : (t : Writing) (m : ℕ) → Is m (λ x. Holds (h x) (ForFilled t)) → (r : Bool)
+      → Decides r ((p : ℕ) × IsQuorum tb p × Inside (In tb p) (Has m)) → Decides r (Spread tb h t)
+  some_spread t m is r = Decides-like r (λ k. (k.0, k.1, λ x i. (is x).0 (k.2 x i))) (λ k. (k.0, k.1, λ x i. (is x).1 (k.2 x i)))
 
   pub place_more : (t : Writing) (p : ℕ) → Entire tb h p (For t) → places_below tb h t (suc p) ≡ bit_or (places_below tb h t p) (2 ^ p)
   unfolding places_below
@@ -43,19 +48,3 @@ module _ (tb : QuorumTable) (h : ℕ → Option Row) where
 
   pub set_same : (t : Writing) (p m n : ℕ) → ¬ (Entire tb h p (For t)) → m ≡ places_below tb h t p → n ≡ m → n ≡ places_below tb h t (p + 1)
   set_same t p m n e em en = en ∙ em ∙ sym (place_same t p e) ∙ ap (places_below tb h t) (sym (add-one p))
-
-  row_of : Writing → ℕ → Bool → Row
-  row_of t z m = record { ticket = t; set = z; mark = m }
-
-  module _ (r : Row) (s : ℕ) (e : s ≡ grown_set tb h r.ticket) where
-    pub grown_marked : (¬ (s ≡ 0)) × Spread tb h r.ticket → ◌≡◌ {A = Row} (record { ticket = r.ticket; set = s; mark = true }) (grown tb h r)
-    unfolding row_of
-    grown_marked k =
-        ap (λ (z : ℕ). row_of r.ticket z true) e
-        ∙ ap (row_of r.ticket (grown_set tb h r.ticket)) (sym (pick_yes (mark? tb h r.ticket) true r.mark ((λ z. k.0 (e ∙ z)), k.1)))
-
-    pub grown_plain : ¬ ((¬ (s ≡ 0)) × Spread tb h r.ticket) → ◌≡◌ {A = Row} (record { ticket = r.ticket; set = s; mark = r.mark }) (grown tb h r)
-    unfolding row_of
-    grown_plain n =
-        ap (λ (z : ℕ). row_of r.ticket z r.mark) e
-        ∙ ap (row_of r.ticket (grown_set tb h r.ticket)) (sym (pick_no (mark? tb h r.ticket) true r.mark (λ k. n ((λ z. k.0 (sym e ∙ z)), k.1))))
