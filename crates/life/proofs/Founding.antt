@@ -25,15 +25,11 @@ use Rattle.unit.specs.declared.fault.UnitFault.TheVariants as faults
 use Rattle.unit.proofs.Filing.{length_filed, filed_at}
 use Rattle.life.specs.Lives.{Grows, Up, IfAny, Onward, FoundedRow, Grounded, Shaped, Founded, begins, goes}
 use Rattle.life.specs.Laws.{LivesAreFounded, RowsOnlyGrow}
-use Rattle.life.proofs.Ups.{some_none, set_cases, up_same, up_is, up_then, any_founded_up, met_up, heard_up}
-use Rattle.life.proofs.Kept.{raised}
+use Rattle.life.proofs.Ups.{set_cases, up_same, up_is, up_then, any_founded_up, met_up, heard_up}
+use Rattle.unit.proofs.Kept.{raised}
+pub use Rattle.unit.proofs.Growing.{none_fresh}
 
--- a fresh unit has no row and has heard none
-pub none_fresh : (m v : ℕ) → row_in (replicate m None) v ≡ None
-none_fresh zero v = refl
-none_fresh (suc m) zero = refl
-none_fresh (suc m) (suc v) = none_fresh m v
-
+-- a fresh unit has heard no row
 pub none_heard : (m v x : ℕ) → cell (blank_of m) v x ≡ None
 none_heard zero v x = refl
 none_heard (suc m) zero x = none_fresh units_most x
@@ -207,10 +203,10 @@ module _ (n : ℕ) (tb : QuorumTable) where
       go : (d : Dec (v % tb.units ≡ x)) (d' : Dec (v ≡ s.view)) (o : Option Row) → own_at s s.view ≡ o → (d'' : Dec (0 < s.view → SomeAllows tb s t))
           → pick d (pick d' (no_row_there tb x o (pick d'' None (Some (faults.NotChosen x)))) (Some (faults.PutForOther x))) (Some (faults.PutByOther x)) ≡ None
           → PutTaken x v t s
-      go (no k) d' o eo d'' e = absurd (some_none _ e)
-      go (yes l) (no k) o eo d'' e = absurd (some_none _ e)
-      go (yes l) (yes k) (Some r) eo d'' e = absurd (some_none _ e)
-      go (yes l) (yes k) None eo (no m) e = absurd (some_none _ e)
+      go (no k) d' o eo d'' e = cc
+      go (yes l) (no k) o eo d'' e = cc
+      go (yes l) (yes k) (Some r) eo d'' e = cc
+      go (yes l) (yes k) None eo (no m) e = cc
       go (yes l) (yes k) None eo (yes a) e = record { leads = l; now_view = k; no_row = eo; allowed = a }
 
   -- the ticket of a put becomes the own row where there is none
@@ -220,8 +216,8 @@ module _ (n : ℕ) (tb : QuorumTable) where
       own_goes s row
       (record {
         named = λ p k. absurd (none_has p k);
-        filled = λ e. absurd (let z : ◌≡◌ {A = ℕ} 0 1 = cc in omega arith);
-        spread = λ e. absurd (let z : ◌≡◌ {A = ℕ} 0 1 = cc in omega arith);
+        filled = λ e. absurd (cc);
+        spread = λ e. absurd (cc);
       })
       (subst (λ (o : Option Row). Up o (Some row)) (sym none) tt)
 

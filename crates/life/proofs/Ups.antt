@@ -1,57 +1,25 @@
 -- Rows that grow, lists after a write, and what lasts of what was heard.
-use Rattle.std.proofs.Common.{◌≡◌, ℕ, zero, suc, Bool, true, false, ◌||◌, ◌⊎◌, List, [], ◌∷◌, get_or, set, Some, None, Option, sym, refl, ap, ◌∙◌, subst, inl, inr, arith}
+use Rattle.std.proofs.Common.{◌≡◌, ℕ, Bool, true, false, ◌||◌, ◌⊎◌, Some, None, Option, sym, refl, ap, ◌∙◌, subst, inl, inr}
 use Rattle.sets.proofs.Bits.{or_has, has_or}
 use Rattle.table.specs.Tables.{QuorumTable}
 use Rattle.ticket.specs.declared.writing.Writing.{Writing}
 use Rattle.rows.specs.declared.row.Row.{Row}
 use Rattle.rows.specs.declared.rule.Rule.{Rule}
 use Rattle.rows.specs.declared.rule.Rule.TheVariants as rules
-use Rattle.rows.specs.Rows.{Grid, row_in, cell, Holds, For, ForAt, ForFilled, ForMarked}
+use Rattle.rows.specs.Rows.{Grid, cell, Holds, For, ForAt, ForFilled, ForMarked}
 use Rattle.rows.specs.Rules.{Needed}
 use Rattle.growth.specs.Growth.{Entire, Met}
 use Rattle.unit.specs.Rules.{joined, noted, with_cell}
+pub use Rattle.unit.proofs.Writes.{set_cases, cell_cases}
+pub use Rattle.unit.proofs.Growing.{grows_same, grows_then}
 use Rattle.life.specs.Lives.{Grows, Up, IfAny, FoundedRow}
 
 pub some_none : {A : Type 0} (a : A) → ◌≡◌ {A = Option A} (Some a) None → ⊥
-some_none a e = let z : ◌≡◌ {A = ℕ} 0 1 = cc in omega arith
-
--- an element of a list after a write is the old one or the one written
-pub set_cases : {A : Type 0} (l : List A) (i j : ℕ) (y d : A) → (get_or (set l i y) j d ≡ get_or l j d) ⊎ ((i ≡ j) × (get_or (set l i y) j d ≡ y))
-set_cases [] i j y d = inl refl
-set_cases (x ∷ l) zero zero y d = inr (refl, refl)
-set_cases (x ∷ l) zero (suc j) y d = inl refl
-set_cases (x ∷ l) (suc i) zero y d = inl refl
-set_cases (x ∷ l) (suc i) (suc j) y d = elim (set_cases l i j y d) [ inl e ↦ inl e | inr k ↦ inr (ap suc k.0, k.1) ]
-
--- a cell after a write is the old one or the one written
-pub cell_cases : (g : Grid) (v x : ℕ) (o : Option Row) (w y : ℕ)
-    → (cell (with_cell g v x o) w y ≡ cell g w y) ⊎ (((v ≡ w) × (x ≡ y)) × (cell (with_cell g v x o) w y ≡ o))
-cell_cases g v x o w y =
-    elim (set_cases g v w (set (get_or g v []) x o) []) [
-      | inl e ↦ inl (ap (λ (rows : List (Option Row)). row_in rows y) e)
-      | inr k ↦
-          let e = ap (λ (rows : List (Option Row)). row_in rows y) k.1 in
-          elim (set_cases (get_or g v []) x y o None) [
-            | inl e' ↦ inl (e ∙ e' ∙ ap (λ z. cell g z y) k.0)
-            | inr k' ↦ inr ((k.0, k'.0), e ∙ k'.1)
-          ]
-    ]
-
--- rows that grow
-
-pub grows_same : (r : Row) → Grows r r
-grows_same r = record { ticket = refl; set = λ p h. h; mark = λ e. e }
-
-pub grows_then : (a b c : Row) → Grows a b → Grows b c → Grows a c
-grows_then a b c k l = record {
-  ticket = l.ticket ∙ k.ticket;
-  set = λ p h. l.set p (k.set p h);
-  mark = λ e. l.mark (k.mark e);
-}
+some_none a e = cc
 
 or_left : (a b : Bool) → a ≡ true → (a || b) ≡ true
 or_left true b e = refl
-or_left false b e = absurd (let z : ◌≡◌ {A = ℕ} 0 1 = cc in omega arith)
+or_left false b e = cc
 
 or_either : (a b : Bool) → (a || b) ≡ true → (a ≡ true) ⊎ (b ≡ true)
 or_either true b e = inl refl

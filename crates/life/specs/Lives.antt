@@ -8,13 +8,8 @@ use Rattle.rows.specs.Rows.{Grid, cell, Holds, For, Filled}
 use Rattle.growth.specs.Growth.{Entire, Spread, Met}
 use Rattle.unit.specs.declared.announcement.Announcement.{Announcement}
 use Rattle.unit.specs.States.{State, own_at, fresh_of}
+pub use Rattle.unit.specs.Laws.{Grows}
 use Rattle.unit.specs.Acts.{Act, act_fault, act_done}
-
--- the second row says all that the first says
-pub record Grows (r r' : Row) : Type 0 where
-  pub ticket : r'.ticket ≡ r.ticket
-  pub set : (p : ℕ) → Has r.set p → Has r'.set p
-  pub mark : r.mark ≡ true → r'.mark ≡ true
 
 -- what is said the first time, if anything, is said the second time too
 abbrev pub Up : Option Row → Option Row → Type 0

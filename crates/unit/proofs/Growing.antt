@@ -1,5 +1,5 @@
--- Rows only grow: what the own row's set names was heard entire, and what was heard is never lost.
-use Rattle.std.proofs.Common.{◌≡◌, ℕ, zero, suc, ◌%◌, ◌<◌, Bool, true, false, ◌⊎◌, List, [], ◌∷◌, get_or, set, replicate, Some, None, Option, sym, refl, ap, ◌∙◌, subst, inl, inr, arith}
+-- Rows only grow: what an own row's set names was heard entire, and what was heard is never lost.
+use Rattle.std.proofs.Common.{◌≡◌, ℕ, zero, suc, ◌%◌, Bool, true, false, Some, None, Option, replicate, sym, refl, ap, ◌∙◌, subst, inl, inr}
 use native.Mathlib.Decide.{ℕ_discrete, dec_lt}
 use Rattle.base.specs.Limits.{views}
 use Rattle.sets.specs.Sets.{Has}
@@ -18,40 +18,13 @@ use Rattle.unit.specs.Letters.{Letter, letter_fault, letter_done}
 use Rattle.unit.specs.declared.letter.Letter.TheVariants as letters
 use Rattle.unit.specs.declared.fault.UnitFault.TheVariants as faults
 use Rattle.unit.specs.Laws.{Grows, Life, starts, receives, puts, raises, RowsOnlyGrow}
-use Rattle.unit.proofs.Kept.{letter_keeps, raised}
+use Rattle.unit.proofs.Writes.{set_cases, cell_cases}
 
-all_none : (n v : ℕ) → row_in (replicate n None) v ≡ None
-all_none zero v = refl
-all_none (suc n) zero = refl
-all_none (suc n) (suc v) = all_none n v
-
--- an element of a list after a write is the old one or the one written
-set_cases : {A : Type 0} (l : List A) (i j : ℕ) (y d : A) → (get_or (set l i y) j d ≡ get_or l j d) ⊎ ((i ≡ j) × (get_or (set l i y) j d ≡ y))
-set_cases [] i j y d = inl refl
-set_cases (x ∷ l) zero zero y d = inr (refl, refl)
-set_cases (x ∷ l) zero (suc j) y d = inl refl
-set_cases (x ∷ l) (suc i) zero y d = inl refl
-set_cases (x ∷ l) (suc i) (suc j) y d = elim (set_cases l i j y d) [ inl e ↦ inl e | inr k ↦ inr (ap suc k.0, k.1) ]
-
-some_none : {A : Type 0} (a : A) → ◌≡◌ {A = Option A} (Some a) None → ⊥
-some_none a e = let z : ◌≡◌ {A = ℕ} 0 1 = cc in omega arith
-
-some_same : (a b : Row) → ◌≡◌ {A = Option Row} (Some a) (Some b) → a ≡ b
-some_same a b e = cc
-
--- a cell after a write is the old one or the one written
-cell_cases : (g : Grid) (v x : ℕ) (o : Option Row) (w y : ℕ)
-    → (cell (with_cell g v x o) w y ≡ cell g w y) ⊎ (((v ≡ w) × (x ≡ y)) × (cell (with_cell g v x o) w y ≡ o))
-cell_cases g v x o w y =
-    elim (set_cases g v w (set (get_or g v []) x o) []) [
-      | inl e ↦ inl (ap (λ (rows : List (Option Row)). row_in rows y) e)
-      | inr k ↦
-          let e = ap (λ (rows : List (Option Row)). row_in rows y) k.1 in
-          elim (set_cases (get_or g v []) x y o None) [
-            | inl e' ↦ inl (e ∙ e' ∙ ap (λ z. cell g z y) k.0)
-            | inr k' ↦ inr ((k.0, k'.0), e ∙ k'.1)
-          ]
-    ]
+-- a fresh unit has no row
+pub none_fresh : (m v : ℕ) → row_in (replicate m None) v ≡ None
+none_fresh zero v = refl
+none_fresh (suc m) zero = refl
+none_fresh (suc m) (suc v) = none_fresh m v
 
 noted_for : (o : Option Row) (r : Row) (t : Writing) → Holds o (For t) → For t (noted o r)
 noted_for None r t h = absurd h
@@ -68,10 +41,10 @@ heard_stays g v x r t w y h =
           subst (λ (o : Option Row). Holds o (For t)) (sym k.1) (noted_for (cell g v x) r t h')
     ]
 
-grows_same : (r : Row) → Grows r r
+pub grows_same : (r : Row) → Grows r r
 grows_same r = record { ticket = refl; set = λ p h. h; mark = λ e. e }
 
-grows_then : (a b c : Row) → Grows a b → Grows b c → Grows a c
+pub grows_then : (a b c : Row) → Grows a b → Grows b c → Grows a c
 grows_then a b c k l = record {
   ticket = l.ticket ∙ k.ticket;
   set = λ p h. l.set p (k.set p h);
@@ -97,118 +70,63 @@ module _ (tb : QuorumTable) where
   grown_founded : (h : ℕ → Option Row) (r : Row) → FoundedRow h (grown tb h r)
   grown_founded h r p k = (set_is tb h r.ticket p).0 k
 
-  -- the own row of the unit's view after growth
-  abbrev OwnGrown : State → State → Row → Type 0
-  OwnGrown s s' r = (r' : Row) × (own_at s' s.view ≡ Some r') × (Grows r r' × FoundedRow (cell s.heard s.view) r')
+  -- every own row is founded
+  abbrev Founded : State → Type 0
+  Founded s = (v : ℕ) (r : Row) → own_at s v ≡ Some r → FoundedRow (cell s.heard v) r
 
-  own_grown : (s : State) (r : Row) → own_at s s.view ≡ Some r → FoundedRow (cell s.heard s.view) r → OwnGrown s (grow_own tb s) r
-  own_grown s r e f = go (dec_lt s.view views)
-    where
-      written : OwnGrown s (with_own (Some (grown tb (cell s.heard s.view) r)) s) r
-      written = elim (set_cases s.own s.view s.view (Some (grown tb (cell s.heard s.view) r)) None) [
-        | inl k ↦ (r, k ∙ e, (grows_same r, f))
-        | inr k ↦ (grown tb (cell s.heard s.view) r, k.1, (grown_grows (cell s.heard s.view) r f, grown_founded (cell s.heard s.view) r))
-      ]
-
-      go : (d : Dec (s.view < views)) → OwnGrown s (pick d (grown_own tb (own_at s s.view) s) s) r
-      go (no n) = (r, e, (grows_same r, f))
-      go (yes l) = subst (λ (o : Option Row). OwnGrown s (grown_own tb o s) r) (sym e) written
-
-  own_none : (s : State) → own_at s s.view ≡ None → own_at (grow_own tb s) s.view ≡ None
-  own_none s e = go (dec_lt s.view views)
-    where
-      go : (d : Dec (s.view < views)) → own_at (pick d (grown_own tb (own_at s s.view) s) s) s.view ≡ None
-      go (no n) = e
-      go (yes l) = subst (λ (o : Option Row). own_at (grown_own tb o s) s.view ≡ None) (sym e) e
-
-  -- what holds of every state of a unit's life
-  record Founded (s : State) : Type 0 where
-    pub above : (v : ℕ) → s.view < v → own_at s v ≡ None
-    pub founded : (r : Row) → own_at s s.view ≡ Some r → FoundedRow (cell s.heard s.view) r
-
-  -- the own row before and after a rule that keeps the view
-  abbrev Step : State → State → Type 0
-  Step s s' = (r : Row) → own_at s s.view ≡ Some r → (r' : Row) × (own_at s' s.view ≡ Some r') × Grows r r'
-
-  -- the state after a rule: founded, and its own row grown
+  -- what a part of a rule does: own rows stay founded, and grow
   abbrev Better : State → State → Type 0
-  Better s s' = ((r : Row) → own_at s' s.view ≡ Some r → FoundedRow (cell s'.heard s.view) r) × Step s s'
+  Better s s' = Founded s → Founded s' × ((v : ℕ) (r : Row) → own_at s v ≡ Some r → (r' : Row) × (own_at s' v ≡ Some r') × Grows r r')
 
-  -- a row is noted
-  hear_better : (x v : ℕ) (r : Row) (s : State) → Founded s → Better s (hear x v r s)
+  same_better : (s : State) → Better s s
+  same_better s f = (f, λ v r e. (r, e, grows_same r))
+
+  better_then : (a b c : State) → Better a b → Better b c → Better a c
+  better_then a b c k l f =
+      let (g, up) = k f in
+      let (h, up') = l g in
+      (h, λ v r e. let (r1, e1, g1) = up v r e in let (r2, e2, g2) = up' v r1 e1 in (r2, e2, grows_then r r1 r2 g1 g2))
+
+  pick_better : {A : Type 0} (d : Dec A) (s a : State) → Better s a → Better s (pick d a s)
+  pick_better (yes p) s a k = k
+  pick_better (no n) s a k = same_better s
+
+  hear_better : (x v : ℕ) (r : Row) (s : State) → Better s (hear x v r s)
   hear_better x v r s f = (
-    λ o e p k. let q = f.founded o e p k in (q.0, λ y i. heard_stays s.heard v x r o.ticket s.view y (q.1 y i)),
-    λ o e. (o, e, grows_same o),
+    λ w o e p k. let q = f w o e p k in (q.0, λ y i. heard_stays s.heard v x r o.ticket w y (q.1 y i)),
+    λ w o e. (o, e, grows_same o),
   )
 
-  -- the own row grows where it is founded
-  grow_better : (s : State) → ((r : Row) → own_at s s.view ≡ Some r → FoundedRow (cell s.heard s.view) r) → Better s (grow_own tb s)
-  grow_better s f = go (own_at s s.view) refl
-    where
-      heard_same : (d : Dec (s.view < views)) (o : Option Row) → (pick d (grown_own tb o s) s).heard ≡ s.heard
-      heard_same (no n) o = refl
-      heard_same (yes l) None = refl
-      heard_same (yes l) (Some r) = refl
-
-      over : (r : Row) → FoundedRow (cell s.heard s.view) r → FoundedRow (cell (grow_own tb s).heard s.view) r
-      over r k = subst (λ (g : Grid). FoundedRow (cell g s.view) r) (sym (heard_same (dec_lt s.view views) (own_at s s.view))) k
-
-      go : (o : Option Row) → own_at s s.view ≡ o → Better s (grow_own tb s)
-      go None e = (
-        λ r e'. absurd (some_none r (sym e' ∙ own_none s e)),
-        λ r e'. absurd (some_none r (sym e' ∙ e)),
-      )
-      go (Some o) e =
-          let k = own_grown s o e (f o e) in (
-            λ r e'. over r (subst (λ (z : Row). FoundedRow (cell s.heard s.view) z) (some_same k.0 r (sym k.1 ∙ e')) k.2.1),
-            λ r e'. (k.0, k.1, subst (λ (z : Row). Grows z k.0) (some_same o r (sym e ∙ e')) k.2.0),
-          )
-
-  better_then : (a b c : State) → b.view ≡ a.view → Better a b → Better b c → Better a c
-  better_then a b c ev k l = (
-    λ r e. subst (λ z. FoundedRow (cell c.heard z) r) ev (l.0 r (subst (λ z. own_at c z ≡ Some r) (sym ev) e)),
-    λ r e. let (r1, e1, g1) = k.1 r e in
-        let (r2, e2, g2) = l.1 r1 (subst (λ z. own_at b z ≡ Some r1) (sym ev) e1) in
-        (r2, subst (λ z. own_at c z ≡ Some r2) ev e2, grows_then r r1 r2 g1 g2),
+  -- the own row of the unit's view is written
+  own_better : (s : State) (new : Row) → FoundedRow (cell s.heard s.view) new → ((r : Row) → own_at s s.view ≡ Some r → Grows r new) → Better s (with_own (Some new) s)
+  own_better s new fn up f = (
+    λ v r e. elim (set_cases s.own s.view v (Some new) None) [
+      | inl k ↦ f v r (sym k ∙ e)
+      | inr k ↦ let same : new ≡ r = cc in subst (λ (z : Row). FoundedRow (cell s.heard v) z) same (subst (λ z. FoundedRow (cell s.heard z) new) k.0 fn)
+    ],
+    λ v r e. elim (set_cases s.own s.view v (Some new) None) [
+      | inl k ↦ (r, k ∙ e, grows_same r)
+      | inr k ↦ (new, k.1, up r (ap (own_at s) k.0 ∙ e))
+    ],
   )
 
-  -- a rule that leaves the own rows and what was heard
-  same_better : (s : State) → ((r : Row) → own_at s s.view ≡ Some r → FoundedRow (cell s.heard s.view) r) → Better s s
-  same_better s f = (f, λ r e. (r, e, grows_same r))
-
-  grow_at_better : (v : ℕ) (s : State) → ((r : Row) → own_at s s.view ≡ Some r → FoundedRow (cell s.heard s.view) r) → Better s (grow_at tb v s)
-  grow_at_better v s f = go (ℕ_discrete v s.view)
+  grow_better : (s : State) → Better s (grow_own tb s)
+  grow_better s f = pick_better (dec_lt s.view views) s (grown_own tb (own_at s s.view) s) (go (own_at s s.view) refl) f
     where
-      go : (d : Dec (v ≡ s.view)) → Better s (pick d (grow_own tb s) s)
-      go (yes e) = grow_better s f
-      go (no n) = same_better s f
+      go : (o : Option Row) → own_at s s.view ≡ o → Better s (grown_own tb o s)
+      go None e g = same_better s g
+      go (Some r) e g =
+          let fr = g s.view r e in
+          own_better s (grown tb (cell s.heard s.view) r) (grown_founded (cell s.heard s.view) r)
+          (λ r' e'. let same : r ≡ r' = cc in subst (λ (z : Row). Grows z (grown tb (cell s.heard s.view) r)) same (grown_grows (cell s.heard s.view) r fr)) g
 
-  announce_better : (v : ℕ) (t : Writing) (s : State) → ((r : Row) → own_at s s.view ≡ Some r → FoundedRow (cell s.heard s.view) r) → Better s (announce tb v t s)
-  announce_better v t s f = go (dec_lt v views)
-    where
-      go : (d : Dec (v < views)) → Better s (pick d (with_announced (announced_or s.announced (ruled v t (least_rule tb (cell s.heard v) t))) s) s)
-      go (yes l) = (f, λ r e. (r, e, grows_same r))
-      go (no n) = same_better s f
-
-  grow_at_view : (v : ℕ) (s : State) → (grow_at tb v s).view ≡ s.view
-  grow_at_view v s = go (ℕ_discrete v s.view) (dec_lt s.view views) (own_at s s.view)
-    where
-      go : (d : Dec (v ≡ s.view)) (d' : Dec (s.view < views)) (o : Option Row) → (pick d (pick d' (grown_own tb o s) s) s).view ≡ s.view
-      go (no n) d' o = refl
-      go (yes e) (no n) o = refl
-      go (yes e) (yes l) None = refl
-      go (yes e) (yes l) (Some r) = refl
-
-  row_better : (x v : ℕ) (r : Row) (s : State) → Founded s → Better s (on_row tb x v r s)
-  row_better x v r s f =
+  row_better : (x v : ℕ) (r : Row) (s : State) → Better s (on_row tb x v r s)
+  row_better x v r s =
       let h = hear x v r s in
       let g = grow_at tb v h in
-      let a = hear_better x v r s f in
-      let b = grow_at_better v h a.0 in
-      let sg = better_then s h g refl a b in
-      let eg = grow_at_view v h in
-      better_then s g (announce tb v r.ticket g) eg sg
-      (announce_better v r.ticket g (λ o e. subst (λ z. FoundedRow (cell g.heard z) o) (sym eg) (sg.0 o (subst (λ z. own_at g z ≡ Some o) eg e))))
+      better_then s h (announce tb v r.ticket g) (hear_better x v r s)
+      (better_then h g (announce tb v r.ticket g) (pick_better (ℕ_discrete v h.view) h (grow_own tb h) (grow_better h))
+      (pick_better (dec_lt v views) g (with_announced (announced_or g.announced (ruled v r.ticket (least_rule tb (cell g.heard v) r.ticket))) g) (λ f. (f, λ w o e. (o, e, grows_same o)))))
 
   -- an accepted put finds no own row
   no_row : (x v : ℕ) (t : Writing) (s : State) → put_fault tb x v t s ≡ None → own_at s s.view ≡ None
@@ -218,59 +136,26 @@ module _ (tb : QuorumTable) where
           → pick d (pick d' (no_row_there tb x o (pick (if? (dec_lt 0 s.view) (some_allows? tb s t)) None (Some (faults.NotChosen x)))) (Some (faults.PutForOther x))) (Some (faults.PutByOther x)) ≡ None
           → o ≡ None
       go d d' None e = refl
-      go (no n) d' (Some r) e = absurd (some_none _ e)
-      go (yes l) (no n) (Some r) e = absurd (some_none _ e)
-      go (yes l) (yes k) (Some r) e = absurd (some_none _ e)
+      go (no n) d' (Some r) e = cc
+      go (yes l) (no n) (Some r) e = cc
+      go (yes l) (yes k) (Some r) e = cc
 
   put_better : (t : Writing) (s : State) → own_at s s.view ≡ None → Better s (on_put tb t s)
   put_better t s none =
-      let a = with_own (Some (record { ticket = t; set = 0; mark = false })) s in
-      let b = grow_better a (λ r e p k. absurd (empty_set t s none r e p k)) in
-      (b.0, λ r e. absurd (some_none r (sym e ∙ none)))
-    where
-      empty_set : (t : Writing) (s : State) → own_at s s.view ≡ None → (r : Row)
-          → own_at (with_own (Some (record { ticket = t; set = 0; mark = false })) s) s.view ≡ Some r → (p : ℕ) → Has r.set p → ⊥
-      empty_set t s none r e p k =
-          elim (set_cases s.own s.view s.view (Some (record { ticket = t; set = 0; mark = false })) None) [
-            | inl q ↦ some_none r (sym e ∙ q ∙ none)
-            | inr q ↦ none_has p (subst (λ (z : Row). Has z.set p) (some_same r (record { ticket = t; set = 0; mark = false }) (sym e ∙ q.1)) k)
-          ]
+      let row : Row = record { ticket = t; set = 0; mark = false } in
+      let a = with_own (Some row) s in
+      better_then s a (grow_own tb a) (own_better s row (λ p k. absurd (none_has p k)) (λ r e. absurd (cc))) (grow_better a)
 
-  letter_better : (x : ℕ) (letter : Letter) (s : State) → Founded s → letter_fault tb x letter s ≡ None → Better s (letter_done tb x letter s)
-  letter_better x (letters.Put v t) s f e = put_better t s (no_row x v t s e)
-  letter_better x (letters.Row v r) s f e = row_better x v r s f
-  letter_better x (letters.Report w rows) s f e = (f.founded, λ r e. (r, e, grows_same r))
-
-  letter_founded : (x : ℕ) (letter : Letter) (s : State) → Founded s → letter_fault tb x letter s ≡ None → Founded (letter_done tb x letter s)
-  letter_founded x letter s f e =
-      let k = letter_keeps tb x letter s in
-      let b = letter_better x letter s f e in
-      let s' = letter_done tb x letter s in
-      record {
-        above = λ v lt. k.1 v (λ z. let ev = k.0 in omega arith) ∙ f.above v (let ev = k.0 in omega arith);
-        founded = λ r e'. subst (λ z. FoundedRow (cell s'.heard z) r) (sym k.0) (b.0 r (subst (λ z. own_at s' z ≡ Some r) k.0 e'));
-      }
-
-  none_fresh : (v : ℕ) → row_in (replicate views None) v ≡ None
-  none_fresh v = all_none views v
+  letter_better : (x : ℕ) (letter : Letter) (s : State) → letter_fault tb x letter s ≡ None → Better s (letter_done tb x letter s)
+  letter_better x (letters.Put v t) s e = put_better t s (no_row x v t s e)
+  letter_better x (letters.Row v r) s e = row_better x v r s
+  letter_better x (letters.Report w rows) s e = λ f. (f, λ v r e. (r, e, grows_same r))
 
   life_founded : (s : State) → Life tb s → Founded s
-  life_founded s starts = record { above = λ v lt. none_fresh v; founded = λ r e. absurd (some_none r (sym e ∙ none_fresh 0)) }
-  life_founded s (receives x letter l e) = letter_founded x letter _ (life_founded _ l) e
-  life_founded s (puts u t l e) = let f = life_founded _ l in record { above = f.above; founded = f.founded }
-  life_founded s (raises {s = a} u w l e) =
-      let f = life_founded a l in
-      let lt = raised u w a e in
-      record {
-        above = λ v k. f.above v (omega arith);
-        founded = λ r q. absurd (some_none r (sym q ∙ f.above w lt));
-      }
+  life_founded s starts = λ v r e. absurd (let z = none_fresh views v in cc)
+  life_founded s (receives {s = a} x letter l e) = (letter_better x letter a e (life_founded a l)).0
+  life_founded s (puts u t l e) = life_founded _ l
+  life_founded s (raises u w l e) = life_founded _ l
 
 pub rows_only_grow : RowsOnlyGrow
-rows_only_grow tb s l x letter e v r q =
-    elim (ℕ_discrete v s.view) [
-      | yes ev ↦
-          let k = (letter_better tb x letter s (life_founded tb s l) e).1 r (subst (λ z. own_at s z ≡ Some r) ev q) in
-          (k.0, subst (λ z. own_at (letter_done tb x letter s) z ≡ Some k.0) (sym ev) k.1, k.2)
-      | no n ↦ (r, (letter_keeps tb x letter s).1 v n ∙ q, grows_same r)
-    ]
+rows_only_grow tb s l x letter e = (letter_better tb x letter s e (life_founded tb s l)).1

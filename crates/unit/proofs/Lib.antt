@@ -1,3 +1,5 @@
+pub mod Writes
+pub mod Places
 pub mod Steps
 pub mod Filing
 pub mod Kept

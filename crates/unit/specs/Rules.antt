@@ -10,7 +10,7 @@ use Rattle.rows.specs.declared.rule.Rule.{Rule}
 use Rattle.rows.specs.Rows.{Grid, cell}
 use Rattle.rows.specs.Decided.{same?}
 use Rattle.growth.specs.Growth.{grown, least_rule}
-use Rattle.unit.specs.States.{Announcement, State, own_at, heard_at, blank, blank_of}
+use Rattle.unit.specs.States.{Announcement, State, own_at, heard_at, blank_of}
 use Rattle.unit.specs.Reported.{some_allows?, some_fully?, deciding, put_ticket, filed, report_of, with_unit, same_rows?}
 use Rattle.unit.specs.declared.fault.UnitFault.{UnitFault}
 use Rattle.unit.specs.declared.fault.UnitFault.TheVariants as faults
@@ -35,38 +35,14 @@ ticket_fault x (Some o) r = pick (same? r.ticket o.ticket) None (Some (faults.Ot
 
 -- a row is noted
 abbrev pub hear : ℕ → ℕ → Row → State → State
-hear x v r s = record {
-  view = s.view;
-  own = s.own;
-  put = s.put;
-  heard = with_cell s.heard v x (Some (noted (heard_at s v x) r));
-  reported = s.reported;
-  reports = s.reports;
-  announced = s.announced;
-}
+hear x v r s = record s { heard = with_cell s.heard v x (Some (noted (heard_at s v x) r)) }
 
 abbrev pub with_put : Option Writing → State → State
-with_put p s = record {
-  view = s.view;
-  own = s.own;
-  put = p;
-  heard = s.heard;
-  reported = s.reported;
-  reports = s.reports;
-  announced = s.announced;
-}
+with_put p s = record s { put = p }
 
 -- the state with another own row in its view
 abbrev pub with_own : Option Row → State → State
-with_own o s = record {
-  view = s.view;
-  own = slice_set s.own s.view o;
-  put = s.put;
-  heard = s.heard;
-  reported = s.reported;
-  reports = s.reports;
-  announced = s.announced;
-}
+with_own o s = record s { own = slice_set s.own s.view o }
 
 -- what is announced by what was heard in view v
 abbrev pub ruled : ℕ → Writing → Option Rule → Option Announcement
@@ -78,37 +54,51 @@ announced_or None found = found
 announced_or (Some a) found = Some a
 
 abbrev pub with_announced : Option Announcement → State → State
-with_announced a s = record {
-  view = s.view;
-  own = s.own;
-  put = s.put;
-  heard = s.heard;
-  reported = s.reported;
-  reports = s.reports;
-  announced = a;
-}
+with_announced a s = record s { announced = a }
 
-module _ (tb : QuorumTable) where
-  abbrev pub grown_own : Option Row → State → State
-  grown_own None s = s
-  grown_own (Some r) s = with_own (Some (grown tb (cell s.heard s.view) r)) s
+abbrev pub grown_own : QuorumTable → Option Row → State → State
+grown_own tb None s = s
+grown_own tb (Some r) s = with_own (Some (grown tb (cell s.heard s.view) r)) s
 
+-- n: the number of views
+module _ (n : ℕ) (tb : QuorumTable) where
   -- the own row of the unit's view grows, if there is one
-  abbrev pub grow_own : State → State
-  grow_own s = pick (dec_lt s.view views) (grown_own (own_at s s.view) s) s
+  abbrev pub grow_own_in : State → State
+  grow_own_in s = pick (dec_lt s.view n) (grown_own tb (own_at s s.view) s) s
 
   -- a row of view v lets the own row grow only in the unit's view
-  abbrev pub grow_at : ℕ → State → State
-  grow_at v s = pick (ℕ_discrete v s.view) (grow_own s) s
+  abbrev pub grow_at_in : ℕ → State → State
+  grow_at_in v s = pick (ℕ_discrete v s.view) (grow_own_in s) s
 
   -- the announcement is tested; it is made once
-  abbrev pub announce : ℕ → Writing → State → State
-  announce v t s =
-      pick (dec_lt v views) (with_announced (announced_or s.announced (ruled v t (least_rule tb (cell s.heard v) t))) s) s
+  abbrev pub announce_in : ℕ → Writing → State → State
+  announce_in v t s =
+      pick (dec_lt v n) (with_announced (announced_or s.announced (ruled v t (least_rule tb (cell s.heard v) t))) s) s
 
   -- a row arrives
+  abbrev pub on_row_in : ℕ → ℕ → Row → State → State
+  on_row_in x v r s = announce_in v r.ticket (grow_at_in v (hear x v r s))
+
+  -- a put arrives: the own row becomes its ticket with an empty set and no mark, and grows
+  abbrev pub on_put_in : Writing → State → State
+  on_put_in t s = grow_own_in (with_own (Some (record { ticket = t; set = 0; mark = false })) s)
+
+module _ (tb : QuorumTable) where
+  -- these with the views of the limits
+  abbrev pub grow_own : State → State
+  grow_own = grow_own_in views tb
+
+  abbrev pub grow_at : ℕ → State → State
+  grow_at = grow_at_in views tb
+
+  abbrev pub announce : ℕ → Writing → State → State
+  announce = announce_in views tb
+
   abbrev pub on_row : ℕ → ℕ → Row → State → State
-  on_row x v r s = announce v r.ticket (grow_at v (hear x v r s))
+  on_row = on_row_in views tb
+
+  abbrev pub on_put : Writing → State → State
+  on_put = on_put_in views tb
 
   -- 50 to 53: does the sender lead the put's view, is that the unit's view, has it no row there, and in later views
   -- does some fully reported quorum give free or only this ticket?
@@ -123,10 +113,6 @@ module _ (tb : QuorumTable) where
       (no_row_there x (own_at s s.view) (pick (if? (dec_lt 0 s.view) (some_allows? tb s t)) None (Some (faults.NotChosen x))))
       (Some (faults.PutForOther x)))
       (Some (faults.PutByOther x))
-
-  -- a put arrives: the own row becomes its ticket with an empty set and no mark, and grows
-  abbrev pub on_put : Writing → State → State
-  on_put t s = grow_own (with_own (Some (record { ticket = t; set = 0; mark = false })) s)
 
   -- 22 to 25: does the unit lead its view, has it not put here, is some quorum fully reported, is the choice of one of these not torn?
   abbrev pub not_put : ℕ → Option Writing → Option UnitFault → Option UnitFault
@@ -148,21 +134,20 @@ module _ (tb : QuorumTable) where
   abbrev pub on_own_put : Writing → State → State
   on_own_put t s = with_put (Some (put_ticket tb s t)) s
 
--- 26: is w above the view, and a view?
-abbrev pub raise_fault : ℕ → ℕ → State → Option UnitFault
-raise_fault u w s = pick (both? (dec_lt s.view w) (dec_lt w views)) None (Some (faults.NotAbove u))
+-- 26: is w above the view, and one of n views?
+abbrev pub raise_fault_in : ℕ → ℕ → ℕ → State → Option UnitFault
+raise_fault_in n u w s = pick (both? (dec_lt s.view w) (dec_lt w n)) None (Some (faults.NotAbove u))
 
 -- the unit raises its view to w: its put and the reports are of this view, so both become none
+abbrev pub on_raise_in : ℕ → ℕ → State → State
+on_raise_in n w s = record s { view = w; put = None; reported = 0; reports = blank_of n }
+
+-- both with the views of the limits
+abbrev pub raise_fault : ℕ → ℕ → State → Option UnitFault
+raise_fault = raise_fault_in views
+
 abbrev pub on_raise : ℕ → State → State
-on_raise w s = record {
-  view = w;
-  own = s.own;
-  put = None;
-  heard = s.heard;
-  reported = 0;
-  reports = blank;
-  announced = s.announced;
-}
+on_raise = on_raise_in views
 
 -- 55 and 56: is the report for the unit's view, and does it equal the one that is kept of the sender, if any?
 abbrev pub report_fault : ℕ → ℕ → List (Option Row) → State → Option UnitFault
@@ -173,44 +158,4 @@ report_fault x w rows s =
 
 -- a report arrives and is kept
 abbrev pub on_report : ℕ → List (Option Row) → State → State
-on_report x rows s = record {
-  view = s.view;
-  own = s.own;
-  put = s.put;
-  heard = s.heard;
-  reported = with_unit s.reported x;
-  reports = filed x rows s.reports;
-  announced = s.announced;
-}
-
--- the rules with n views
-module _ (n : ℕ) (tb : QuorumTable) where
-  abbrev pub grow_own_in : State → State
-  grow_own_in s = pick (dec_lt s.view n) (grown_own tb (own_at s s.view) s) s
-
-  abbrev pub grow_at_in : ℕ → State → State
-  grow_at_in v s = pick (ℕ_discrete v s.view) (grow_own_in s) s
-
-  abbrev pub announce_in : ℕ → Writing → State → State
-  announce_in v t s =
-      pick (dec_lt v n) (with_announced (announced_or s.announced (ruled v t (least_rule tb (cell s.heard v) t))) s) s
-
-  abbrev pub on_row_in : ℕ → ℕ → Row → State → State
-  on_row_in x v r s = announce_in v r.ticket (grow_at_in v (hear x v r s))
-
-  abbrev pub on_put_in : Writing → State → State
-  on_put_in t s = grow_own_in (with_own (Some (record { ticket = t; set = 0; mark = false })) s)
-
-abbrev pub raise_fault_in : ℕ → ℕ → ℕ → State → Option UnitFault
-raise_fault_in n u w s = pick (both? (dec_lt s.view w) (dec_lt w n)) None (Some (faults.NotAbove u))
-
-abbrev pub on_raise_in : ℕ → ℕ → State → State
-on_raise_in n w s = record {
-  view = w;
-  own = s.own;
-  put = None;
-  heard = s.heard;
-  reported = 0;
-  reports = blank_of n;
-  announced = s.announced;
-}
+on_report x rows s = record s { reported = with_unit s.reported x; reports = filed x rows s.reports }

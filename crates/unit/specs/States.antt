@@ -36,26 +36,11 @@ own_at s v = row_in s.own v
 abbrev pub heard_at : State → ℕ → ℕ → Option Row
 heard_at s v x = cell s.heard v x
 
--- no row of any view and sender
-abbrev pub blank : Grid
-blank = replicate views (replicate units_most None)
-
--- a unit that has done and heard nothing
-abbrev pub fresh : State
-fresh = record {
-  view = 0;
-  own = replicate views None;
-  put = None;
-  heard = blank;
-  reported = 0;
-  reports = blank;
-  announced = None;
-}
-
--- the same with n views
+-- no row of any view and sender; n: the number of views
 abbrev pub blank_of : ℕ → Grid
 blank_of n = replicate n (replicate units_most None)
 
+-- a unit that has done and heard nothing
 abbrev pub fresh_of : ℕ → State
 fresh_of n = record {
   view = 0;
@@ -66,6 +51,13 @@ fresh_of n = record {
   reports = blank_of n;
   announced = None;
 }
+
+-- both with the views of the limits
+abbrev pub blank : Grid
+blank = blank_of views
+
+abbrev pub fresh : State
+fresh = fresh_of views
 
 -- the rows of the views below w, none at and above it: what a unit reports for view w
 unfoldable pub below : ℕ → List (Option Row) → List (Option Row)

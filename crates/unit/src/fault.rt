@@ -50,10 +50,6 @@ impl Fault for UnitFault {
             UnitFault::ReportForOther(sender) => (55, sender),
             UnitFault::OtherReport(sender) => (56, sender),
         };
-        FaultCode {
-            number,
-            layer: Layer::Unit,
-            place: place as usize,
-        }
+        Layer::Unit.refusal(number, place as usize)
     }
 }

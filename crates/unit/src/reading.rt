@@ -1,13 +1,16 @@
 // What a unit shows of its state.
-ghost use Rattle.std.specs.Prelude.{◌≡◌};
+ghost use Rattle.std.specs.Prelude.{◌≡◌, ◌<◌};
+ghost use Rattle.base.specs.Limits.{views};
 ghost use Rattle.table.specs.Means.{means as table_of};
 ghost use Rattle.unit.specs.States.{means, own_at, heard_at, below};
 ghost use Rattle.unit.specs.Reported.{shown_choice};
+ghost use Rattle.unit.specs.Letters.{stage_of};
 
 use crate::announcement::Announcement;
 use crate::cells::{cell_of, row_in};
-use crate::reported::{choice_of, fully};
+use crate::stage::Stage;
 use crate::state::ControlUnit;
+use base::VIEW_COUNT;
 use choice::Choice;
 use rows::Row;
 use table::Passed;
@@ -16,10 +19,10 @@ use ticket::Writing;
 impl ControlUnit {
     // The view that the unit is in.
     pub fn view(&self) -> u32
-        ensures { result ≡ (means self.now).view }
+        ensures is { result ≡ (means self.now).view }
+        ensures low { result < views }
     {
-        let ControlUnit { view, .. } = self;
-        *view
+        self.view
     }
 
     // The own row of a view.
@@ -27,6 +30,20 @@ impl ControlUnit {
         ensures { result ≡ own_at (means self.now) v }
     {
         row_in(&self.own, v)
+    }
+
+    // The own row of the unit's view.
+    pub(crate) fn own_in_view(&self) -> Option<Row>
+        ensures { result ≡ own_at (means self.now) (means self.now).view }
+    {
+        self.own[self.view as usize]
+    }
+
+    // How far the own row of the unit's view has come.
+    pub fn stage(&self) -> Stage
+        ensures { result ≡ stage_of (own_at (means self.now) (means self.now).view) }
+    {
+        self.own_in_view().into()
     }
 
     // The put of this view.
@@ -42,9 +59,7 @@ impl ControlUnit {
     {
         self.announced
     }
-}
 
-impl ControlUnit {
     // What was heard of a sender in a view.
     pub fn heard_row(&self, v: u32, sender: u32) -> Option<Row>
         ensures { result ≡ heard_at (means self.now) v sender }
@@ -53,39 +68,23 @@ impl ControlUnit {
     }
 
     // The own rows of the views below this one, none at and above it: what the unit reports for its view.
-    pub fn report(&self) -> [Option<Row>; 8]
+    pub fn report(&self) -> [Option<Row>; VIEW_COUNT]
         ensures { result ≡ below (means self.now).view (means self.now).own }
     {
-        let own = self.own;
-        rows_below(&own, self.view)
+        let mut rows = self.own;
+        rows[self.view as usize..].fill(None);
+        rows
     }
 
     // The choice from the kept reports of the quorum at a place; none where the quorum is not listed or not fully reported.
     pub fn choice(&self, passed: &Passed<'_>, q: u32) -> Option<Choice<Writing>>
         ensures { result ≡ shown_choice (table_of passed.now) (means self.now) q }
     {
-        match passed.quorum(q) {
-            None => None,
-            Some(_) => {
-                if fully(self, passed, q) {
-                    Some(choice_of(self, passed, q))
-                } else {
-                    None
-                }
-            }
+        passed.quorum(q)?;
+        if self.fully(passed, q) {
+            Some(self.choice_of(passed, q))
+        } else {
+            None
         }
     }
-}
-
-// The rows of the views below w; none at and above it.
-fn rows_below(own: &[Option<Row>; 8], w: u32) -> [Option<Row>; 8]
-    ensures { result ≡ below w own.now }
-{
-    let mut rows: [Option<Row>; 8] = [None; 8];
-    for v in 0..8 {
-        if (v as u32) < w {
-            rows[v] = own[v];
-        }
-    }
-    rows
 }

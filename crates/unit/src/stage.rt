@@ -13,19 +13,15 @@ pub enum Stage {
     Marked,
 }
 
-pub(crate) fn stage_of(held: Option<Row>) -> Stage
-    ensures { result ≡ stage_of held }
-{
-    match held {
-        None => Stage::None,
-        Some(row) => {
-            if row.mark {
-                Stage::Marked
-            } else if row.set != 0 {
-                Stage::Set
-            } else {
-                Stage::Held
-            }
+impl From<Option<Row>> for Stage {
+    ghost from_gives = { λ said stage. stage ≡ stage_of said };
+
+    fn from(said: Option<Row>) -> Stage {
+        match said {
+            None => Stage::None,
+            Some(row) if row.mark => Stage::Marked,
+            Some(row) if row.set != 0 => Stage::Set,
+            Some(_) => Stage::Held,
         }
     }
 }

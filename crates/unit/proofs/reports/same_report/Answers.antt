@@ -1,21 +1,15 @@
-use Rattle.std.proofs.Common.{List, None, Option, sym, ap, ◌∙◌, arith}
-use Rattle.std.proofs.lemmas.Bool.Decides.{not_from_Decides}
-use Rattle.sets.proofs.Sides.{decides_yes, decides_no}
+use Rattle.std.proofs.Common.{rules, arith, List, Option}
+use borrow.Author.Tests.{tests}
+use Rattle.std.proofs.lemmas.Iterator.{YieldsList-from_slice, YieldsList-from_zip, same_from_all}
+use Rattle.std.proofs.lemmas.List.{length-map}
 use Rattle.rows.specs.declared.row.Row.{Row}
 use Rattle.rows.specs.Rows.{row_in}
-use Rattle.unit.specs.Reported.{report_of}
-use Rattle.unit.proofs.Filing.{same_elements, length_report, report_at}
+use Rattle.unit.proofs.Places.{read_through}
 use Rattle.unit.proofs.reports.same_report.Goals as goal
-
-pub returns-then-not-same_said : goal.returns-then-not-same_said
-returns-then-not-same_said c =
-    decides_no (λ e. not_from_Decides _ c.same_said.ensures c.if-not-same_said.true
-    (c.cell_of.ensures ∙ sym (report_at c.args.x c.args.grid.now c.loop-v.v) ∙ ap (λ (rows : List (Option Row)). row_in rows c.loop-v.v) e))
 
 pub returns : goal.returns
 returns c =
-    let lg = c.told-grid in
-    let lr = c.told-rows in
-    let ll = length_report c.args.x c.args.grid.now in
-    decides_yes (same_elements None (report_of c.args.x c.args.grid.now) c.args.rows.now (omega arith)
-    (λ k lt. report_at c.args.x c.args.grid.now k ∙ c.loop-v.invariant k (omega arith)))
+    same_from_all c.all.new.self _ _ _ c.args.rows.now c.all.ensures.ran
+    (YieldsList-from_zip (read_through (λ (rows : List (Option Row)). row_in rows c.args.sender) (YieldsList-from_slice c.args.grid.now (cc))) (YieldsList-from_slice c.args.rows.now (cc)))
+    (omega (arith, length-map c.args.grid.now (λ (rows : List (Option Row)). row_in rows c.args.sender), c.told-grid, c.told-rows))
+    (λ x q k. search (rules, tests)) (λ x q k. search (rules, tests))
