@@ -2,8 +2,5 @@
 #![tactic(auto)]
 
 mod boxes;
-mod cells;
-mod spread;
-mod store;
 
-pub use store::{Boxes, PLACES};
+pub use boxes::{Boxes, PLACES};

@@ -1,3 +1,4 @@
 pub mod Sums
 pub mod Entries
+pub mod Walks
 pub mod Laid

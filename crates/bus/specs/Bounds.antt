@@ -1,4 +1,4 @@
--- How many places a bus may have; src/store.rt states it for the code.
+-- How many places a bus may have; src/bus.rt states it for the code.
 use Rattle.std.specs.Prelude.{ℕ}
 
 abbrev pub bus_places_most : ℕ

@@ -1,44 +1,45 @@
-// The bus as a wire.
-ghost use Rattle.std.specs.Prelude.{◌≡◌, [], length, Some, None, MatchResult};
+// One row of slots for all units, in memory that is handed in.
+ghost use Rattle.std.specs.Prelude.{ℕ, ◌≡◌, ◌≤◌, ◌<◌, [], length, min, slice_index_or, Some, None, IfOk, MatchOption, MatchResult};
+ghost use Rattle.wire.specs.Calls.{Refused};
+ghost use Rattle.wire.specs.Making.{InBounds, make_fault, Made};
 ghost use Rattle.wire.specs.Meaning.{parcel};
-ghost use Rattle.wire.specs.Making.{make_fault, Made};
+ghost use Rattle.wire.specs.Sends.{SentAll, send_fault};
 ghost use Rattle.bus.specs.Bounds.{bus_places_most};
 ghost use Rattle.bus.specs.Shared.{SharedPlaces, bus_rule};
-ghost use Rattle.bus.specs.Store.{means_of, packet_of};
+ghost use Rattle.bus.specs.declared.entry.BusSlot.{BusSlot};
 
 use crate::entry::BusSlot;
-use crate::store::{Bus, PLACES};
-use base::{PACKET_BYTES, UNITS};
-use wire::{Counts, Found, Slot, Wire, WireFault};
+use wire::{Counts, Packet, Slot, Store, Tally, WireFault};
 
-impl BusSlot {
-    // A slot to fill memory with.
-    pub fn empty() -> BusSlot
-        ensures { (result.to ≡ 0) × (packet_of result ≡ parcel 0 []) }
-    {
-        BusSlot {
-            to: 0,
-            slot: Slot::empty(),
-        }
-    }
+// The most places that a bus may have; specs/Bounds.antt states it for the contracts.
+pub const PLACES: u32 = 1024;
+
+// The first `used` slots hold the packets that wait, for whatever unit, in the order of posting.
+#[derive(Drop)]
+pub struct Bus<'a> {
+    pub(crate) slots: &'a mut [BusSlot],
+    pub(crate) used: usize,
+    pub(crate) units: u32,
+    pub(crate) places: u32,
+    ghost sized: { InBounds bus_places_most units places },
+    ghost memory: { places ≤ length slots.now },
+    ghost within: { used ≤ places },
+    ghost addressed: { (k : ℕ) (d : BusSlot) → k < used → (slice_index_or slots.now k d).to < units },
 }
 
 impl<'a> Bus<'a> {
+    ghost use Rattle.bus.specs.Store.{means_of, Stands};
+
     // A bus for the units 0 to units - 1 in the slots handed in; nothing waits, whatever they held.
     pub fn make(units: u32, places: u32, slots: &'a mut [BusSlot]) -> Result<Bus<'a>, WireFault>
         ensures { MatchResult result (λ b. (make_fault bus_places_most units places places (length slots.old) ≡ None) × Made (means_of b) units places) (λ e. make_fault bus_places_most units places places (length slots.old) ≡ Some e) }
     {
-        if units < 1 || units > UNITS || places < 1 || places > PLACES {
-            return Err(WireFault::BadMemory);
-        }
-        if slots.len() < places as usize {
-            return Err(WireFault::BadMemory);
-        }
+        wire::ask_memory(PLACES, units, places, places as usize, slots.len())?;
         Ok(Bus {
             slots,
             used: 0,
-            units: units as usize,
-            places: places as usize,
+            units,
+            places,
         })
     }
 
@@ -46,64 +47,85 @@ impl<'a> Bus<'a> {
     pub fn places(&self) -> u32
         ensures { SharedPlaces result (means_of self.now) }
     {
-        self.places as u32
+        self.places
+    }
+
+    // The send to all: the first are laid, as many as there are free places at the start.
+    // Written for each wire, since each promises its own count.
+    pub fn send_all(&mut self, from: u32, n: u32, packet: &[u8]) -> Result<Tally, WireFault>
+        ensures exact { MatchResult result (λ tally. SentAll bus_rule (means_of self.old) from n packet.now tally (means_of self.new)) (λ e. Refused (send_fault (means_of self.old) from n packet.now) e (means_of self.old) (means_of self.new)) }
+        ensures laid { IfOk result (λ tally. tally.laid ≡ min n ((means_of self.old).free 0)) }
+    {
+        wire::send_all(self, from, n, packet)
+    }
+
+    // How many packets wait for the unit: a walk over the used slots.
+    fn waiting_for(&self, unit: u32) -> usize
+        ensures exact { result ≡ length ((means_of self.now).waiting unit) }
+        ensures some { result ≤ self.now.used }
+    {
+        self.slots[..self.used]
+            .iter()
+            .filter(|slot| slot.to == unit)
+            .count()
+    }
+
+    // The index of the slot with the packet that waits for the unit at the place; none where none waits.
+    fn find(&self, unit: u32, place: u32) -> Option<usize>
+        ensures { MatchOption result (length ((means_of self.now).waiting unit) ≤ place) (λ at. Stands self.now.slots.now self.now.used unit place at) }
+    {
+        self.slots[..self.used]
+            .iter()
+            .enumerate()
+            .filter(|(_, slot)| slot.to == unit)
+            .nth(place as usize)
+            .map(|(at, _)| at)
     }
 }
 
-impl Wire for Bus<'_> {
+impl Store for Bus<'_> {
+    ghost use Rattle.bus.specs.Store.{means_of};
+
     ghost means = { means_of };
 
     ghost rule = { bus_rule };
 
-    fn post(&mut self, from: u32, to: u32, packet: &[u8]) -> Result<(), WireFault> {
-        if from as usize >= self.units || to as usize >= self.units {
-            return Err(WireFault::NotServed(to));
-        }
-        if packet.len() > PACKET_BYTES {
-            return Err(WireFault::TooLong(to));
-        }
-        if self.used >= self.places {
-            return Err(WireFault::Full(to));
-        }
-        self.lay(from, to, packet);
-        Ok(())
+    fn units(&self) -> u32 {
+        self.units
     }
 
-    fn look(&self, unit: u32, place: u32, into: &mut [u8]) -> Result<Found, WireFault> {
-        if unit as usize >= self.units {
-            return Err(WireFault::NotServed(unit));
+    fn counts_of(&self, unit: u32) -> Option<Counts> {
+        if unit >= self.units {
+            return None;
         }
-        let Some(at) = self.find(unit, place) else {
-            return Err(WireFault::NoPacket(place));
-        };
-        match self.copy_out(unit, place, at, into) {
-            Some(found) => Ok(found),
-            None => Err(WireFault::ShortBuffer(unit)),
-        }
-    }
-
-    fn drop(&mut self, unit: u32, place: u32) -> Result<(), WireFault> {
-        if unit as usize >= self.units {
-            return Err(WireFault::NotServed(unit));
-        }
-        let Some(at) = self.find(unit, place) else {
-            return Err(WireFault::NoPacket(place));
-        };
-        self.close_up(unit, place, at);
-        Ok(())
-    }
-
-    fn served(&self) -> u32 {
-        self.units as u32
-    }
-
-    fn counts(&self, unit: u32) -> Result<Counts, WireFault> {
-        if unit as usize >= self.units {
-            return Err(WireFault::NotServed(unit));
-        }
-        Ok(Counts {
-            waiting: self.waiting_for(unit),
-            free: (self.places - self.used) as u32,
+        Some(Counts {
+            waiting: self.waiting_for(unit) as u32,
+            free: self.places - self.used as u32,
         })
+    }
+
+    fn lay(&mut self, from: u32, to: u32, packet: Packet) -> Option<()> {
+        if to >= self.units || self.used >= self.places as usize {
+            return None;
+        }
+        let at = self.used;
+        // The whole slice is lent first: a slot is not lent as `&mut` through a struct with facts in its type.
+        let slots = &mut *self.slots;
+        slots[at].hold(from, to, packet);
+        self.used += 1;
+        Some(())
+    }
+
+    fn slot_of(&self, unit: u32, place: u32) -> Option<&Slot> {
+        let at = self.find(unit, place)?;
+        let slots = &*self.slots;
+        Some(&slots[at].slot)
+    }
+
+    fn take_out(&mut self, unit: u32, place: u32) -> Option<()> {
+        let at = self.find(unit, place)?;
+        self.slots.copy_within(at + 1..self.used, at);
+        self.used -= 1;
+        Some(())
     }
 }

@@ -2,10 +2,7 @@
 #![tactic(auto)]
 
 mod bus;
-mod cells;
 mod entry;
-mod spread;
-mod store;
 
+pub use bus::{Bus, PLACES};
 pub use entry::BusSlot;
-pub use store::{Bus, PLACES};

@@ -4,7 +4,8 @@ use mathlib.Core.List.Memᴰ
 use mathlib.Core.List.{Memᴰ}
 use Rattle.std.specs.List.{remove}
 use Rattle.std.specs.List.Sorted.{IsPermutation}
-use Rattle.std.proofs.lemmas.List.Sorted.{IsPermutation-refl}
+use Rattle.std.proofs.lemmas.List.{append_assoc, get_or_default}
+use Rattle.std.proofs.lemmas.List.Sorted.{IsPermutation-refl, IsPermutation-sym, IsPermutation-trans, IsPermutation-append_left, IsPermutation-push_more, IsPermutation-middle, IsPermutation-remove}
 use Rattle.std.proofs.lemmas.Bool.{eq-eqb, ne_eqb}
 use Rattle.wire.specs.declared.fault.WireFault.{WireFault}
 use Rattle.wire.specs.Calls.{Happens, Refused, post_fault, drop_fault}
@@ -12,7 +13,17 @@ use Rattle.wire.specs.Meaning.{Meaning, Rule, Event, posting, dropping, resting,
 use Rattle.wire.specs.Runs.{Run, start, next, posted_to, dropped_of, Account, Accounted, Honest, RunsOfSends}
 use Rattle.wire.specs.Sends.{none, laid, lost}
 use Rattle.wire.proofs.Effects.{post_lists, drop_lists, post_in, drop_in, drop_asked}
-use Rattle.wire.proofs.Shuffles.{pushed, taken}
+
+-- one more on both sides
+pushed : {X : Type 0} (before posted after gone : List X) (x : X) → IsPermutation (before ++ posted) (after ++ gone) → IsPermutation (before ++ (posted ++ (x ∷ []))) ((after ++ (x ∷ [])) ++ gone)
+pushed before posted after gone x h =
+    rw (append_assoc after (x ∷ []) gone, ← append_assoc before posted (x ∷ [])) (IsPermutation-push_more _ _ _ x h (IsPermutation-sym _ _ (IsPermutation-middle after x gone)))
+
+-- one taken out of what is left goes to what is gone
+taken : {X : Type 0} (all xs gone : List X) (i : ℕ) (d : X) → i < length xs → IsPermutation all (xs ++ gone) → IsPermutation all (remove xs i ++ (get_or xs i d ∷ gone))
+taken all xs gone i d h s =
+    let out = IsPermutation-append_left gone _ _ (IsPermutation-remove xs i (get_or xs i d) h (get_or_default xs i d _ h)) in
+    IsPermutation-trans _ _ _ s (IsPermutation-trans _ _ _ out (IsPermutation-sym _ _ (IsPermutation-middle (remove xs i) (get_or xs i d) gone)))
 
 pub happens_served : (rule : Rule) (a b : Meaning) (e : Event) → Happens rule a e b → b.served ≡ a.served
 happens_served rule a b (posting from to packet) did = did.1.served

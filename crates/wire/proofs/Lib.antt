@@ -1,6 +1,4 @@
 pub mod Chains
 pub mod Effects
-pub mod Shuffles
 pub mod Histories
-pub mod Copies
-pub mod Moves
+pub mod Rows

@@ -1,6 +1,4 @@
 // Why a wire refuses. Each case carries its place: the addressee, or the unit asked about; for a missing packet the place named.
-ghost use Rattle.std.specs.Prelude.{◌≡◌};
-ghost use Rattle.base.specs.declared.fault.Layer.TheVariants as layers;
 ghost use Rattle.wire.specs.Faults.{wire_says};
 
 use base::{Fault, FaultCode, Layer};
@@ -25,23 +23,14 @@ impl Fault for WireFault {
     ghost says = { wire_says };
 
     fn code(self) -> FaultCode {
-        match self {
-            WireFault::NotServed(to) => code_of(70, to),
-            WireFault::TooLong(to) => code_of(71, to),
-            WireFault::Full(to) => code_of(72, to),
-            WireFault::NoPacket(at) => code_of(73, at),
-            WireFault::ShortBuffer(unit) => code_of(74, unit),
-            WireFault::BadMemory => code_of(75, 0),
-        }
-    }
-}
-
-fn code_of(number: u32, place: u32) -> FaultCode
-    ensures { result ≡ record { number = number; layer = layers.Wire; place = place } }
-{
-    FaultCode {
-        number,
-        layer: Layer::Wire,
-        place: place as usize,
+        let (number, place) = match self {
+            WireFault::NotServed(to) => (70, to),
+            WireFault::TooLong(to) => (71, to),
+            WireFault::Full(to) => (72, to),
+            WireFault::NoPacket(at) => (73, at),
+            WireFault::ShortBuffer(unit) => (74, unit),
+            WireFault::BadMemory => (75, 0),
+        };
+        Layer::Wire.refusal(number, place as usize)
     }
 }

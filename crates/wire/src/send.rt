@@ -22,6 +22,7 @@ pub fn send_all<W: Wire>(wire: &mut W, from: u32, n: u32, packet: &[u8]) -> Resu
     if packet.len() > PACKET_BYTES {
         return Err(WireFault::TooLong(0));
     }
+    // A loop: each post changes the wire, and of a closure that changes what it holds a proof learns nothing.
     let mut laid = 0;
     let mut lost = 0;
     for to in 0..n {

@@ -3,7 +3,7 @@
 
 #[cfg(test)]
 mod tests {
-    use base::{Fault, PACKET_BYTES, UNITS};
+    use base::{Fault, Layer, PACKET_BYTES, UNITS};
     use boxes::Boxes;
     use bus::{Bus, BusSlot};
     use std::process::Abort;
@@ -121,10 +121,7 @@ mod tests {
     }
 
     // A look into a longer buffer keeps what stands behind the packet.
-    #[test]
-    fn long_buffer(rt: HostRuntime) -> Result<(), Fail> {
-        let mut slots = [Slot::empty(); 1];
-        let mut line = Boxes::make(1, 1, &mut slots)?;
+    fn look_into_more<W: Wire>(rt: &impl Abort, line: &mut W) -> Result<(), Fail> {
         let mut into = [7; WIDE];
         line.post(0, 0, &[1, 2])?;
         assert_eq!(rt;
@@ -144,16 +141,33 @@ mod tests {
         Ok(())
     }
 
-    // The questions are asked by number: a long packet to a full box is 71, to a box that is not there 70.
     #[test]
-    fn order_of_questions(rt: HostRuntime) -> Result<(), Fail> {
+    fn long_buffer(rt: HostRuntime) -> Result<(), Fail> {
         let mut slots = [Slot::empty(); 1];
         let mut line = Boxes::make(1, 1, &mut slots)?;
+        look_into_more(&rt, &mut line)?;
+        let mut shared = [BusSlot::empty(); 1];
+        let mut row = Bus::make(1, 1, &mut shared)?;
+        look_into_more(&rt, &mut row)
+    }
+
+    // The questions are asked by number: a long packet to a full box is 71, to a box that is not there 70.
+    fn ask_in_order<W: Wire>(rt: &impl Abort, line: &mut W) -> Result<(), Fail> {
         line.post(0, 0, &[])?;
         assert_eq!(rt; line.post(0, 0, &[0; LONG]), Err(WireFault::TooLong(0)));
         assert_eq!(rt; line.post(0, 5, &[0; LONG]), Err(WireFault::NotServed(5)));
         assert_eq!(rt; line.post(1, 0, &[]), Err(WireFault::NotServed(0)));
         Ok(())
+    }
+
+    #[test]
+    fn order_of_questions(rt: HostRuntime) -> Result<(), Fail> {
+        let mut slots = [Slot::empty(); 1];
+        let mut line = Boxes::make(1, 1, &mut slots)?;
+        ask_in_order(&rt, &mut line)?;
+        let mut shared = [BusSlot::empty(); 1];
+        let mut row = Bus::make(1, 1, &mut shared)?;
+        ask_in_order(&rt, &mut row)
     }
 
     // A send to all lays what there is room for.
@@ -182,6 +196,6 @@ mod tests {
         assert!(rt; Boxes::make(0, 1, &mut slots).is_err());
         assert!(rt; Bus::make(UNITS, 3, &mut shared).is_ok());
         assert!(rt; Bus::make(UNITS, 4, &mut shared).is_err());
-        assert!(rt; WireFault::BadMemory.code().number == 75);
+        assert_eq!(rt; WireFault::BadMemory.code(), Layer::Wire.refusal(75, 0));
     }
 }

@@ -6,4 +6,8 @@ use Rattle.wire.proofs.send.send_all.Given as goal
 abbrev pub invariant-loop-to : goal.invariant-loop-to
 invariant-loop-to g l =
     let at = g.W.Wire.means in
-    (l.laid + l.lost ≡ l.to) × ((at l.wire).served ≡ (at l.initial.wire).served) × Sent g.W.Wire.rule l.from l.packet (at l.initial.wire) l.to (at l.wire) l.laid l.lost
+    record {
+      every : l.laid + l.lost ≡ l.to;
+      served : (at l.wire).served ≡ (at l.initial.wire).served;
+      chain : Sent g.W.Wire.rule l.from l.packet (at l.initial.wire) l.to (at l.wire) l.laid l.lost;
+    }
