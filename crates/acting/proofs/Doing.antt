@@ -1,67 +1,97 @@
--- What one unit does, among several.
-use Rattle.std.proofs.Common.{◌≡◌, ℕ, ◌<◌, ◌≤◌, List, length, get_or, set, Some, None, Ok, Err, Result, sym, ap, ◌∙◌, subst, arith, MatchResult}
-use native.Mathlib.Decide.{dec_lt}
-use Rattle.std.proofs.lemmas.List.{map-set, set-get_or}
-use Rattle.base.specs.Limits.{views}
+-- What one unit of a world does, as what the world does.
+use Rattle.std.proofs.Common.{◌≡◌, ℕ, ◌<◌, List, length, get_or, set, take, replicate, Some, None, Option, sym, ap, ◌∙◌, ap₂, refl}
+use Rattle.std.proofs.lemmas.List.{map-set, set-get_or, take_at}
+use Rattle.std.specs.Option.{option_map}
+use Rattle.base.specs.Asked.{first}
+use Rattle.base.specs.Limits.{views, packet_bytes}
 use Rattle.table.specs.Tables.{QuorumTable}
-use Rattle.packet.specs.Said.{Said}
-use Rattle.growth.proofs.Entirely.{pick_yes, pick_no}
+use Rattle.ticket.specs.declared.fault.TicketFault.{TicketFault}
+use Rattle.ticket.specs.declared.writing.Writing.{Writing}
+use Rattle.packet.specs.Questions.{packet_fault}
+use Rattle.packet.specs.Said.{meaning, said_by}
+use Rattle.packet.specs.declared.message.Message.{Message}
 use Rattle.unit.specs.States.{State, means, fresh}
 use Rattle.unit.specs.Acts.{Act, receiving, act_fault, act_done, act_sends}
-use Rattle.unit.specs.Sending.{repeats}
-use Rattle.unit.specs.Letters.{said_of, letter_fault, letter_done, letter_sends}
-use Rattle.unit.specs.declared.letter.Letter.{Letter}
-use Rattle.unit.specs.declared.letter.Letter.TheVariants as letters
+use Rattle.unit.specs.Sending.{outgoing}
 use Rattle.unit.specs.declared.state.ControlUnit.{ControlUnit}
 use Rattle.unit.specs.declared.fault.UnitFault.{UnitFault}
 use Rattle.unit.specs.declared.letter.Sends.{Sends}
+use Rattle.unit.specs.Letters.{said_of, letter_fault, letter_done, letter_sends}
+use Rattle.unit.specs.declared.letter.Letter.{Letter}
+use Rattle.unit.specs.declared.letter.Letter.TheVariants as letters
+use Rattle.wire.specs.Calls.{Looked, look_fault, waits_at}
+use Rattle.wire.specs.declared.answers.Found.{Found}
+use Rattle.wire.specs.Meaning.{Meaning, Rule}
+use Rattle.wire.specs.declared.answers.Tally.{Tally}
+use Rattle.calls.specs.declared.fault.ShedFault.{ShedFault}
 use Rattle.calls.specs.declared.fault.ShedFault.TheVariants as sheds
-use Rattle.calls.specs.Calls.{in_view}
-use Rattle.calls.specs.Worlds.{states_of, state_at}
+use Rattle.calls.specs.Calls.{Acts, GoesOut, heard_as, handed, act_refusal, read_fault}
+use Rattle.calls.specs.Worlds.{world, states_of, state_at}
 use Rattle.calls.proofs.Lent.{state_at_lem}
-use Rattle.acting.specs.Acted.{Acted}
 
--- what one unit does, by what it means before and after
-abbrev pub Done : QuorumTable → ℕ → Act → State → State → Result Sends UnitFault → Type 0
-Done tb u act s t r =
-    MatchResult r (λ sends. (act_fault views tb u act s ≡ None) × (t ≡ act_done views tb u act s) × (sends ≡ act_sends views tb u act s))
-    (λ e. (act_fault views tb u act s ≡ Some e) × (t ≡ s))
+-- a question that is met leaves the next
+pub next_asked : {a b c : Option ShedFault} → a ≡ None → b ≡ c → first a b ≡ c
+next_asked e h = rw (e, h)
+
+module _ (tb : QuorumTable) (falses : ℕ) (us : List ControlUnit) (m : Meaning) (u : ℕ) (d new : ControlUnit) (act : Act) (there : u < length us) where
+  stands : state_at (states_of us) u ≡ means (get_or us u d)
+  stands = state_at_lem us u d there
+
+  pub act_refused : {o : Option UnitFault} → act_fault views tb u act (means (get_or us u d)) ≡ o → act_refusal (world tb falses (states_of us) m) u act ≡ option_map sheds.Unit o
+  act_refused e = ap (λ (s : State). option_map sheds.Unit (act_fault views tb u act s)) stands ∙ ap (option_map sheds.Unit) e
+
+  -- asks: what was asked before its rules
+  module _ (asks : Option ShedFault) (met : asks ≡ None) where
+    -- its rules refuse it, and it stays as it is
+    pub refused : (f : UnitFault) → act_fault views tb u act (means (get_or us u d)) ≡ Some f → means new ≡ means (get_or us u d)
+        → (first asks (act_refusal (world tb falses (states_of us) m) u act) ≡ Some (sheds.Unit f)) × (world tb falses (states_of (set us u new)) m ≡ world tb falses (states_of us) m)
+    refused f e same = (
+      next_asked met (act_refused e),
+      ap (λ (l : List State). world tb falses l m) (map-set means us u new ∙ ap (set (states_of us) u) (same ∙ sym stands) ∙ set-get_or (states_of us) u fresh),
+    )
+
+    -- it acts, and what it sends goes out
+    pub acted : (rule : Rule) (m' : Meaning) (n : ℕ) (sends : Sends) (tally : Tally) → act_fault views tb u act (means (get_or us u d)) ≡ None → means new ≡ act_done views tb u act (means (get_or us u d))
+        → sends ≡ act_sends views tb u act (means (get_or us u d)) → n ≡ tb.units → GoesOut rule n u (outgoing sends (means new)) m m' tally.laid tally.lost
+        → (first asks (act_refusal (world tb falses (states_of us) m) u act) ≡ None) × Acts rule (world tb falses (states_of us) m) u act tally (world tb falses (states_of (set us u new)) m')
+    acted rule m' n sends tally e done is serves out =
+        let done' = done ∙ sym (ap (act_done views tb u act) stands) in
+        let is' = is ∙ sym (ap (act_sends views tb u act) stands) in (
+          next_asked met (act_refused e),
+          record {
+            units = ap (λ (l : List State). world tb falses l m') (map-set means us u new ∙ ap (set (states_of us) u) done');
+            out = rw (← done', ← is', ← serves) out;
+          },
+        )
 
 -- what a unit does with a letter is what it does with what the letter says
-pub letter_done_as_said : (tb : QuorumTable) (u x : ℕ) (letter : Letter) (s t : State) (r : Result Sends UnitFault)
-    → MatchResult r (λ sends. (letter_fault tb x letter s ≡ None) × (t ≡ letter_done tb x letter s) × (sends ≡ letter_sends tb x letter s))
-    (λ e. (letter_fault tb x letter s ≡ Some e) × (t ≡ s))
-    → Done tb u (receiving x (said_of letter)) s t r
-letter_done_as_said tb u x (letters.Put v w) s t r d = d
-letter_done_as_said tb u x (letters.Row v row) s t r d = d
-letter_done_as_said tb u x (letters.Report w rows) s t r d = d
+module _ (tb : QuorumTable) (u x : ℕ) (act : Act) where
+  pub letter_fault_is : (letter : Letter) (s : State) → receiving x (said_of letter) ≡ act → act_fault views tb u act s ≡ letter_fault tb x letter s
+  letter_fault_is (letters.Put v t) s e = rw (← e)
+  letter_fault_is (letters.Row v r) s e = rw (← e)
+  letter_fault_is (letters.Report w rows) s e = rw (← e)
 
-module _ (tb : QuorumTable) (u : ℕ) (act : Act) (us : List ControlUnit) (d new : ControlUnit) (h : u < length us) where
-  by_state : (s : State) → state_at (states_of us) u ≡ s → (r : Result Sends UnitFault) → Done tb u act s (means new) r → Acted tb u act (states_of us) (states_of (set us u new)) r
-  by_state s e (Ok sends) p =
-      (ap (act_fault views tb u act) e ∙ p.0, map-set means us u new ∙ ap (set (states_of us) u) (p.1 ∙ sym (ap (act_done views tb u act) e)), p.2 ∙ sym (ap (act_sends views tb u act) e))
-  by_state s e (Err f) p =
-      (ap (act_fault views tb u act) e ∙ p.0, map-set means us u new ∙ ap (set (states_of us) u) (p.1 ∙ sym e) ∙ set-get_or (states_of us) u fresh)
+  pub letter_done_is : (letter : Letter) (s : State) → receiving x (said_of letter) ≡ act → letter_done tb x letter s ≡ act_done views tb u act s
+  letter_done_is (letters.Put v t) s e = rw (← e)
+  letter_done_is (letters.Row v r) s e = rw (← e)
+  letter_done_is (letters.Report w rows) s e = rw (← e)
 
-  -- among several units
-  pub acted : (r : Result Sends UnitFault) → Done tb u act (means (get_or us u d)) (means new) r → Acted tb u act (states_of us) (states_of (set us u new)) r
-  acted r p = by_state (means (get_or us u d)) (state_at_lem us u d h) r p
+  pub letter_sends_is : (letter : Letter) (s : State) → receiving x (said_of letter) ≡ act → letter_sends tb x letter s ≡ act_sends views tb u act s
+  letter_sends_is (letters.Put v t) s e = rw (← e)
+  letter_sends_is (letters.Row v r) s e = rw (← e)
+  letter_sends_is (letters.Report w rows) s e = rw (← e)
 
--- the same letter under another name
-pub acted_as : (tb : QuorumTable) (u x : ℕ) (said heard : Said) (a b : List State) (r : Result Sends UnitFault) → said ≡ heard → Acted tb u (receiving x said) a b r → Acted tb u (receiving x heard) a b r
-acted_as tb u x said heard a b r e p = subst (λ (z : Said). Acted tb u (receiving x z) a b r) e p
+-- what is seen is what waits, and it is read
+module _ (m : Meaning) (u k : ℕ) (before after : List ℕ) (found : Found) (looked : Looked m u k before after found) where
+  pub seen : take found.length after ≡ (waits_at m u k).bytes
+  seen = rw (looked.bytes, looked.size) (take_at (waits_at m u k).bytes _ _ refl)
 
-module _ (us : List ControlUnit) (u : ℕ) (d : ControlUnit) (h : u < length us) where
-  -- what a unit repeats
-  pub repeated : (v : ℕ) (sends : Sends) → v ≡ (means (get_or us u d)).view → v < views → sends ≡ repeats (means (get_or us u d))
-      → (in_view (state_at (states_of us) u) ≡ None) × (sends ≡ repeats (state_at (states_of us) u)) × ((state_at (states_of us) u).view < views)
-  repeated v sends ev low es =
-      let e = state_at_lem us u d h in
-      let lower : (state_at (states_of us) u).view < views = subst (λ n. n < views) (ev ∙ sym (ap (λ (s : State). s.view) e)) low in
-      (pick_yes (dec_lt (state_at (states_of us) u).view views) None (Some sheds.NoMemory) lower, es ∙ sym (ap repeats e), lower)
+  -- the act is that of the packet's letter
+  pub handed_act : (message : Message) (letter : Letter) → meaning message ≡ said_by (take found.length after) → said_of letter ≡ heard_as (meaning message)
+      → receiving found.sender (said_of letter) ≡ receiving (waits_at m u k).sender (handed (waits_at m u k).bytes)
+  handed_act message letter reads lays = ap₂ receiving looked.sender (lays ∙ ap heard_as (reads ∙ ap said_by seen))
 
-  pub past_views : (v : ℕ) → v ≡ (means (get_or us u d)).view → views ≤ v → in_view (state_at (states_of us) u) ≡ Some sheds.NoMemory
-  past_views v ev high =
-      let e = state_at_lem us u d h in
-      let higher : views ≤ (state_at (states_of us) u).view = subst (λ n. views ≤ n) (ev ∙ sym (ap (λ (s : State). s.view) e)) high in
-      pick_no (dec_lt (state_at (states_of us) u).view views) None (Some sheds.NoMemory) (λ lt. omega arith)
+  pub can_be_read : (refuses : Writing → Option TicketFault) (tb : QuorumTable) (asks : Option ShedFault) (n : ℕ) → asks ≡ None → look_fault m u k (replicate packet_bytes 0) ≡ None → n ≡ length tb.quorums
+      → packet_fault views refuses n (take found.length after) ≡ None → first asks (read_fault refuses tb m u k) ≡ None
+  can_be_read refuses tb asks n met looks count reads =
+      next_asked met (next_asked (ap (option_map sheds.Wire) looks) (ap (option_map sheds.Packet) (ap₂ (packet_fault views refuses) (sym count) (sym seen) ∙ reads)))

@@ -1,4 +1,1 @@
 pub mod Doing
-pub mod Handed
-pub mod Sent
-pub mod Told

@@ -2,7 +2,7 @@
 #![tactic(auto)]
 
 mod acting;
-mod reading;
-mod units;
+mod letters;
+mod world;
 
-pub use acting::{deliver, put, raise, repeat};
+pub use world::World;

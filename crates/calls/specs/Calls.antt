@@ -1,8 +1,7 @@
 -- What each call asks and does, for any kind of ticket and any wire.
-use Rattle.std.specs.Prelude.{◌≡◌, ℕ, ◌+◌, List, [], ◌∷◌, length, take, replicate, Some, None, Ok, Err, Option, Result, slice_set}
-use Rattle.std.proofs.Math.Decide.{dec_lt}
+use Rattle.std.specs.Prelude.{◌≡◌, ℕ, ◌+◌, List, [], ◌∷◌, length, take, replicate, Some, None, Option, Result, MatchResult, option_map, slice_set}
+use Rattle.base.specs.Asked.{first}
 use Rattle.base.specs.Limits.{views, packet_bytes}
-use Rattle.sets.specs.Decisions.{pick}
 use Rattle.table.specs.Tables.{QuorumTable}
 use Rattle.ticket.specs.declared.fault.TicketFault.{TicketFault}
 use Rattle.ticket.specs.declared.writing.Writing.{Writing}
@@ -11,7 +10,6 @@ use Rattle.packet.specs.Questions.{packet_fault}
 use Rattle.packet_write.specs.Writes.{writing}
 use Rattle.choice.specs.declared.choice.Choice.{Choice}
 use Rattle.choice.specs.declared.choice.Choice.TheVariants.{Free, Only, Torn}
-use Rattle.unit.specs.States.{State}
 use Rattle.unit.specs.declared.announcement.Announcement.{Announcement}
 use Rattle.unit.specs.Reported.{shown_choice}
 use Rattle.unit.specs.Sending.{outgoing}
@@ -23,7 +21,6 @@ use Rattle.wire.specs.declared.answers.Tally.{Tally}
 use Rattle.calls.specs.declared.fault.ShedFault.{ShedFault}
 use Rattle.calls.specs.declared.fault.ShedFault.TheVariants as sheds
 pub use Rattle.calls.specs.declared.shown.Shown.{Shown}
-use Rattle.calls.specs.Faults.{by_wire, by_packet, by_ticket, by_unit, or_else}
 use Rattle.calls.specs.Worlds.{World, world, unit_at, asked, asked_named, asked_forged}
 
 -- a kind of ticket and a wire, by what they mean
@@ -79,35 +76,44 @@ handed bytes = heard_as (said_by bytes)
 -- 73, then 40 to 47: why what waits cannot be read
 abbrev pub read_fault : (Writing → Option TicketFault) → QuorumTable → Meaning → ℕ → ℕ → Option ShedFault
 read_fault refuses tb m u k =
-    or_else (by_wire (look_fault m u k (replicate packet_bytes 0))) (by_packet (packet_fault views refuses (length tb.quorums) (waits_at m u k).bytes))
+    first (option_map sheds.Wire (look_fault m u k (replicate packet_bytes 0))) (option_map sheds.Packet (packet_fault views refuses (length tb.quorums) (waits_at m u k).bytes))
 
 -- 45: is what was announced, or chosen, a ticket of the kind?
 abbrev pub show_fault : (Writing → Option TicketFault) → Option Announcement → Option ShedFault
 show_fault refuses None = None
-show_fault refuses (Some x) = by_ticket (refuses x.ticket)
+show_fault refuses (Some x) = option_map sheds.Ticket (refuses x.ticket)
 
 abbrev pub choice_fault : (Writing → Option TicketFault) → Option (Choice Writing) → Option ShedFault
 choice_fault refuses None = None
 choice_fault refuses (Some Free) = None
-choice_fault refuses (Some (Only w)) = by_ticket (refuses w)
+choice_fault refuses (Some (Only w)) = option_map sheds.Ticket (refuses w)
 choice_fault refuses (Some Torn) = None
 
--- 11: is the unit in one of the views, so that its report can be sent? A made shed never says no.
-abbrev pub in_view : State → Option ShedFault
-in_view s = pick (dec_lt s.view views) None (Some sheds.NoMemory)
+-- why the unit may not act so
+abbrev pub act_refusal : World → ℕ → Act → Option ShedFault
+act_refusal a u act = option_map sheds.Unit (act_fault views a.table u act (unit_at a u))
+
+-- the same after the first questions
+abbrev pub acting_fault : World → ℕ → Act → Option ShedFault
+acting_fault a u act = first (asked a u) (act_refusal a u act)
+
+-- a delivery hands a unit what waits for it at a place; it is read before
+abbrev pub delivering : World → ℕ → ℕ → Act
+delivering a u k = receiving (waiting_at a u k).sender (handed (waiting_at a u k).bytes)
+
+abbrev pub delivery_fault : (Writing → Option TicketFault) → World → ℕ → ℕ → Option ShedFault
+delivery_fault refuses a u k = first (first (asked a u) (read_fault refuses a.table a.wire u k)) (act_refusal a u (delivering a u k))
 
 -- the questions of each call, in order
 abbrev pub fault : {T : Type 0} → Ways T → World → Call T → Option ShedFault
-fault y a (put u t) = or_else (asked a u) (by_unit (act_fault views a.table u (putting (y.written t)) (unit_at a u)))
-fault y a (deliver u k) =
-    or_else (asked a u) (or_else (read_fault y.refuses a.table a.wire u k)
-    (by_unit (act_fault views a.table u (receiving (waiting_at a u k).sender (handed (waiting_at a u k).bytes)) (unit_at a u))))
-fault y a (announce u) = or_else (asked a u) (show_fault y.refuses (unit_at a u).announced)
-fault y a (raise u w) = or_else (asked a u) (by_unit (act_fault views a.table u (raising w) (unit_at a u)))
-fault y a (repeat u) = or_else (asked a u) (in_view (unit_at a u))
-fault y a (lose u k) = or_else (asked_named a u) (by_wire (drop_fault a.wire u k))
-fault y a (forge from to bytes) = or_else (asked_forged a from to) (by_wire (post_fault a.wire from to bytes))
-fault y a (choice u q) = or_else (asked a u) (choice_fault y.refuses (shown_choice a.table (unit_at a u) q))
+fault y a (put u t) = acting_fault a u (putting (y.written t))
+fault y a (deliver u k) = delivery_fault y.refuses a u k
+fault y a (announce u) = first (asked a u) (show_fault y.refuses (unit_at a u).announced)
+fault y a (raise u w) = acting_fault a u (raising w)
+fault y a (repeat u) = acting_fault a u repeating
+fault y a (lose u k) = first (asked_named a u) (option_map sheds.Wire (drop_fault a.wire u k))
+fault y a (forge from to bytes) = first (asked_forged a from to) (option_map sheds.Wire (post_fault a.wire from to bytes))
+fault y a (choice u q) = first (asked a u) (choice_fault y.refuses (shown_choice a.table (unit_at a u) q))
 
 -- messages go out in order, each to the units 0 to n - 1: so many posts are laid and so many lost in all.
 -- A unit that is handed a message's packet is handed the message.
@@ -120,9 +126,9 @@ pub data GoesOut (rule : Rule) (n from : ℕ) : List Said → Meaning → Meanin
       → GoesOut rule n from (m ∷ ms) a c (tally.laid + laid) (tally.lost + lost)
 
 -- unit u does one act, and what it sends goes out
-pub record Acts {T : Type 0} (y : Ways T) (a : World) (u : ℕ) (act : Act) (tally : Tally) (b : World) : Type 0 where
+pub record Acts (rule : Rule) (a : World) (u : ℕ) (act : Act) (tally : Tally) (b : World) : Type 0 where
   pub units : b ≡ world a.table a.falses (slice_set a.units u (act_done views a.table u act (unit_at a u))) b.wire
-  pub out : GoesOut y.rule a.table.units u (outgoing (act_sends views a.table u act (unit_at a u)) (act_done views a.table u act (unit_at a u))) a.wire b.wire tally.laid tally.lost
+  pub out : GoesOut rule a.table.units u (outgoing (act_sends views a.table u act (unit_at a u)) (act_done views a.table u act (unit_at a u))) a.wire b.wire tally.laid tally.lost
 
 -- the ticket that is shown is the writing that was announced, with its view and rule
 abbrev pub Shows : {T : Type 0} → (T → Writing) → Option Announcement → Option (Shown T) → Type 0
@@ -158,16 +164,19 @@ OnWire a b = b ≡ world a.table a.falses a.units b.wire
 
 -- what a call that is not refused has done
 abbrev pub Effect : {T : Type 0} → Ways T → World → (c : Call T) → Answer c → World → Type 0
-Effect y a (put u t) v b = Acts y a u (putting (y.written t)) v b
-Effect y a (deliver u k) v b = Acts y a u (receiving (waiting_at a u k).sender (handed (waiting_at a u k).bytes)) v b
+Effect y a (put u t) v b = Acts y.rule a u (putting (y.written t)) v b
+Effect y a (deliver u k) v b = Acts y.rule a u (delivering a u k) v b
 Effect y a (announce u) v b = (b ≡ a) × Shows y.written (unit_at a u).announced v
-Effect y a (raise u w) v b = Acts y a u (raising w) v b
-Effect y a (repeat u) v b = Acts y a u repeating v b
+Effect y a (raise u w) v b = Acts y.rule a u (raising w) v b
+Effect y a (repeat u) v b = Acts y.rule a u repeating v b
 Effect y a (lose u k) v b = OnWire a b × Happens y.rule a.wire (dropping u k) b.wire × (v ≡ tallied 0 0)
 Effect y a (forge from to bytes) v b = OnWire a b × Happens y.rule a.wire (posting from to bytes) b.wire × (v ≡ tallied 1 0)
 Effect y a (choice u q) v b = (b ≡ a) × ShowsChoice y.written (shown_choice a.table (unit_at a u) q) v
 
+-- a call is refused where there is a fault, and has left all as it was; else it has done what it says
+abbrev pub Answered : {V : Type 0} → Option ShedFault → (V → World → Type 0) → World → Result V ShedFault → World → Type 0
+Answered fault effect a r b = MatchResult r (λ v. (fault ≡ None) × effect v b) (λ e. (fault ≡ Some e) × (b ≡ a))
+
 -- one call, refused or not
 abbrev pub Did : {T : Type 0} → Ways T → World → (c : Call T) → Result (Answer c) ShedFault → World → Type 0
-Did y a c (Ok v) b = (fault y a c ≡ None) × Effect y a c v b
-Did y a c (Err e) b = (fault y a c ≡ Some e) × (b ≡ a)
+Did y a c r b = Answered (fault y a c) (Effect y a c) a r b

@@ -2,6 +2,7 @@
 use Rattle.std.specs.Prelude.{◌≡◌, ℕ, ◌<◌, ◌≤◌, List, [], ◌∷◌, ◌++◌, map, length, drop, replicate, Some, None, Option, slice_index, slice_index_or, refl}
 use Rattle.std.proofs.Common.{ap, arith}
 use Rattle.std.proofs.Math.Decide.{ℕ_discrete, dec_lt, dec_le}
+use Rattle.base.specs.Asked.{first}
 use Rattle.sets.specs.Sets.{Has, Bearable}
 use Rattle.sets.specs.Decisions.{pick, both?, has?, all?, some?, all_in?}
 use Rattle.table.specs.Tables.{QuorumTable, Proper}
@@ -9,7 +10,6 @@ use Rattle.wire.specs.Meaning.{Meaning, Parcel}
 use Rattle.wire.specs.Runs.{Quiet}
 use Rattle.unit.specs.States.{State, means, fresh}
 use Rattle.unit.specs.declared.state.ControlUnit.{ControlUnit}
-use Rattle.calls.specs.Faults.{or_else}
 use Rattle.calls.specs.declared.fault.ShedFault.{ShedFault}
 use Rattle.calls.specs.declared.fault.ShedFault.TheVariants as sheds
 
@@ -37,7 +37,7 @@ unit_at w u = state_at w.units u
 abbrev pub Sound : World → ℕ → Type 0
 Sound w u = (u < w.table.units) × (Has w.falses u → ⊥)
 
--- 11: is there memory for the units, and does the wire serve just them? A made shed never says no, since no call changes either.
+-- 11: is there memory for the units, and does the wire serve just them? Asked where a shed is made; no call changes either.
 abbrev pub ready : (n memory served : ℕ) → Option ShedFault
 ready n memory served = pick (both? (dec_le n memory) (ℕ_discrete served n)) None (Some sheds.NoMemory)
 
@@ -52,26 +52,22 @@ sound_side falses u = pick (has? falses u) (Some (sheds.WrongSide u)) None
 abbrev pub false_side : (falses u : ℕ) → Option ShedFault
 false_side falses u = pick (has? falses u) None (Some (sheds.WrongSide u))
 
--- what a call asks first of a unit, sound or false
-abbrev pub ask_named : (n memory served u : ℕ) → Option ShedFault
-ask_named n memory served u = or_else (ready n memory served) (named n u)
-
--- of a unit that it is to work with
-abbrev pub ask_sound : (n falses memory served u : ℕ) → Option ShedFault
-ask_sound n falses memory served u = or_else (ask_named n memory served u) (sound_side falses u)
+-- of a unit that a call is to work with
+abbrev pub ask_sound : (n falses u : ℕ) → Option ShedFault
+ask_sound n falses u = first (named n u) (sound_side falses u)
 
 -- of the sender and the addressee of a forged packet
-abbrev pub ask_forged : (n falses memory served from to : ℕ) → Option ShedFault
-ask_forged n falses memory served from to = or_else (ready n memory served) (or_else (named n from) (or_else (named n to) (false_side falses from)))
+abbrev pub ask_forged : (n falses from to : ℕ) → Option ShedFault
+ask_forged n falses from to = first (named n from) (first (named n to) (false_side falses from))
 
 abbrev pub asked : World → ℕ → Option ShedFault
-asked w u = ask_sound w.table.units w.falses (length w.units) w.wire.served u
+asked w u = ask_sound w.table.units w.falses u
 
 abbrev pub asked_named : World → ℕ → Option ShedFault
-asked_named w u = ask_named w.table.units (length w.units) w.wire.served u
+asked_named w u = named w.table.units u
 
 abbrev pub asked_forged : World → ℕ → ℕ → Option ShedFault
-asked_forged w from to = ask_forged w.table.units w.falses (length w.units) w.wire.served from to
+asked_forged w from to = ask_forged w.table.units w.falses from to
 
 -- a shed that was just made
 pub record Made (w : World) : Type 0 where
@@ -96,7 +92,7 @@ quiet? m = all? (λ u. empty? (m.waiting u)) m.served
 -- 10, 11, 12: why no shed is made
 abbrev pub made_fault : QuorumTable → (falses memory : ℕ) → Meaning → Option ShedFault
 made_fault tb falses memory m =
-    pick (bearable? tb.faults falses) (or_else (ready tb.units memory m.served) (pick (quiet? m) None (Some sheds.Waiting))) (Some sheds.Unbearable)
+    pick (bearable? tb.faults falses) (first (ready tb.units memory m.served) (pick (quiet? m) None (Some sheds.Waiting))) (Some sheds.Unbearable)
 
 -- what is known where a shed is made
 pub record MayMake (tb : QuorumTable) (falses memory : ℕ) (m : Meaning) : Type 0 where
@@ -109,12 +105,6 @@ pub record MayMake (tb : QuorumTable) (falses memory : ℕ) (m : Meaning) : Type
 -- the units of a made shed: the first n fresh, the others as they were
 abbrev pub renewed : ℕ → List State → List State
 renewed n us = replicate n fresh ++ drop n us
-
--- what a call may count on once its first questions are met
-pub record Ready (n memory served u : ℕ) : Type 0 where
-  pub below : u < n
-  pub roomy : n ≤ memory
-  pub serves : served ≡ n
 
 -- a shed that is made: nothing refuses it, it is just this world, and it is as new
 pub record Makes (tb : QuorumTable) (falses : ℕ) (us : List State) (m : Meaning) (w : World) : Type 0 where

@@ -1,6 +1,6 @@
 // Why the shed refuses.
 ghost use Rattle.std.specs.Prelude.{◌≡◌};
-ghost use Rattle.calls.specs.Faults.{at_shed, shed_says};
+ghost use Rattle.calls.specs.Faults.{shed_says};
 ghost use Rattle.calls.specs.declared.fault.ShedFault.TheVariants as sheds;
 
 use base::{Fault, FaultCode, Layer};
@@ -35,28 +35,17 @@ impl Fault for ShedFault {
 
     fn code(self) -> FaultCode {
         match self {
-            ShedFault::Unbearable => shed_code(10, 0),
-            ShedFault::NoMemory => shed_code(11, 0),
-            ShedFault::Waiting => shed_code(12, 0),
-            ShedFault::NoUnit(unit) => shed_code(20, unit),
-            ShedFault::WrongSide(unit) => shed_code(21, unit),
+            ShedFault::Unbearable => Layer::Shed.refusal(10, 0),
+            ShedFault::NoMemory => Layer::Shed.refusal(11, 0),
+            ShedFault::Waiting => Layer::Shed.refusal(12, 0),
+            ShedFault::NoUnit(unit) => Layer::Shed.refusal(20, unit as usize),
+            ShedFault::WrongSide(unit) => Layer::Shed.refusal(21, unit as usize),
             ShedFault::Table(fault) => fault.code(),
             ShedFault::Wire(fault) => fault.code(),
             ShedFault::Packet(fault) => fault.code(),
             ShedFault::Ticket(fault) => fault.code(),
             ShedFault::Unit(fault) => fault.code(),
         }
-    }
-}
-
-// A number and a place of this layer.
-fn shed_code(number: u32, place: u32) -> FaultCode
-    ensures { result ≡ at_shed number place }
-{
-    FaultCode {
-        number,
-        layer: Layer::Shed,
-        place: place as usize,
     }
 }
 

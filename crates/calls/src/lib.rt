@@ -7,7 +7,7 @@ mod making;
 mod showing;
 mod shown;
 
-pub use asks::{ask_forged, ask_named, ask_sound, memory_of, unit_count};
+pub use asks::Sides;
 pub use fault::ShedFault;
 pub use making::ask_making;
 pub use showing::{announcement_at, choice_at, show, show_choice};

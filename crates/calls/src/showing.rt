@@ -16,11 +16,7 @@ use unit::{Announcement, ControlUnit};
 pub fn announcement_at(units: &[ControlUnit], unit: u32) -> Option<Announcement>
     ensures { result ≡ (state_at (states_of units.now) unit).announced }
 {
-    let at = unit as usize;
-    if at >= units.len() {
-        return None;
-    }
-    units[at].announcement()
+    units.get(unit as usize)?.announcement()
 }
 
 // The choice of one of several units from the reports of the quorum at a place; past the last, that of a fresh one.
@@ -32,11 +28,10 @@ pub fn choice_at(
 ) -> Option<Choice<Writing>>
     ensures { result ≡ shown_choice (table_of passed.now) (state_at (states_of units.now) unit) quorum }
 {
-    let at = unit as usize;
-    if at >= units.len() {
-        return ControlUnit::fresh().choice(passed, quorum);
+    match units.get(unit as usize) {
+        Some(unit) => unit.choice(passed, quorum),
+        None => ControlUnit::fresh().choice(passed, quorum),
     }
-    units[at].choice(passed, quorum)
 }
 
 // An announcement.
@@ -46,14 +41,12 @@ pub fn show<T: Ticket>(announced: Option<Announcement>) -> Result<Option<Shown<T
     let Some(found) = announced else {
         return Ok(None);
     };
-    match T::of_writing(found.ticket) {
-        Ok(ticket) => Ok(Some(Shown {
-            ticket,
-            view: found.view,
-            rule: found.rule,
-        })),
-        Err(fault) => Err(ShedFault::Ticket(fault)),
-    }
+    let ticket = T::of_writing(found.ticket)?;
+    Ok(Some(Shown {
+        ticket,
+        view: found.view,
+        rule: found.rule,
+    }))
 }
 
 // A choice.
@@ -66,9 +59,6 @@ pub fn show_choice<T: Ticket>(
         None => Ok(None),
         Some(Choice::Free) => Ok(Some(Choice::Free)),
         Some(Choice::Torn) => Ok(Some(Choice::Torn)),
-        Some(Choice::Only(writing)) => match T::of_writing(writing) {
-            Ok(ticket) => Ok(Some(Choice::Only(ticket))),
-            Err(fault) => Err(ShedFault::Ticket(fault)),
-        },
+        Some(Choice::Only(writing)) => Ok(Some(Choice::Only(T::of_writing(writing)?))),
     }
 }

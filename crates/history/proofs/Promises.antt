@@ -22,10 +22,9 @@ use Rattle.agreement.specs.Invariant.{NoneFalse}
 use Rattle.agreement.specs.Agreed.{Agreed}
 use Rattle.agreement.proofs.Keeping.{keeps_invariant}
 use Rattle.agreement.proofs.Theorem.{runs_agree}
-use Rattle.calls.specs.declared.fault.ShedFault.TheVariants as sheds
 use Rattle.calls.specs.declared.shown.Shown.{Shown}
 use Rattle.calls.specs.Worlds.{World, unit_at, Sound}
-use Rattle.calls.specs.Calls.{Ways, in_view, Shows}
+use Rattle.calls.specs.Calls.{Ways, Shows}
 use Rattle.history.specs.Runs.{Run, deeds_of, tickets_of}
 use Rattle.history.specs.Promised.{Announced, Promised}
 use Rattle.history.proofs.Asked.{is_ready}
@@ -119,13 +118,6 @@ module _ {T : Type 0} (y : Ways T) (apart : (s t : T) → bytes_of (y.written s)
       (λ p. subst (λ (s : State). s.view < views) (sym (same u su))
       (((keeps_invariant views w.table w.falses now p told.running).fit u su).founded.inside (lit< tt)))
 
-  in_a_view : (u : ℕ) → Sound w u → in_view (unit_at w u) ≡ None
-  in_a_view u su = go (dec_lt (unit_at w u).view views)
-    where
-      go : (d : Dec ((unit_at w u).view < views)) → pick d None (Some sheds.NoMemory) ≡ None
-      go (yes lt) = refl
-      go (no n) = absurd (n (view_inside u su))
-
   pub promised : Promised y w run
   promised = record {
     announced_tickets_agree = tickets_agree;
@@ -133,6 +125,6 @@ module _ {T : Type 0} (y : Ways T) (apart : (s t : T) → bytes_of (y.written s)
     announced_was_handed = was_handed;
     later_views_keep_the_ticket = later_keeps;
     sound_quorum_is_not_torn = not_torn;
-    nothing_runs_out = (is_ready w.table.units (length w.units) w.wire.served told.roomy told.serves, in_a_view);
+    nothing_runs_out = (is_ready w.table.units (length w.units) w.wire.served told.roomy told.serves, view_inside);
     state_is_the_replay = same;
   }

@@ -23,7 +23,7 @@ use Rattle.calls.specs.Calls as call
 use Rattle.calls.specs.Calls.{Ways, Call, Answer, packet_said, handed, waiting_at, GoesOut, nothing, next, Acts, fault, Effect, Did}
 use Rattle.history.specs.Runs.{Run, made, deeds, tickets, if_ok, deeds_of, tickets_of}
 use Rattle.history.specs.Runs.{next as after_call}
-use Rattle.history.proofs.Asked.{both_none, unit_none, wire_none, asked_sound, forged_false}
+use Rattle.history.proofs.Asked.{both_none, mapped_none, asked_sound, forged_false}
 
 -- a waiting packet was sent by its sender, and says what that said
 abbrev WasSent : Course → Parcel → Type 0
@@ -164,23 +164,23 @@ module _ {T : Type 0} (y : Ways T) where
   led a b (call.put u t) v now ts told ok e =
       let (asks, f) = both_none _ _ ok in
       subst (λ (z : World). Told y z (after views a.table now u (putting (y.written t))) (ts ++ (t ∷ []))) (sym e.units)
-      (acted a now ts (ts ++ (t ∷ [])) told u (putting (y.written t)) (asked_sound a u asks) tt (unit_none _ f) b.wire _ _ e.out
+      (acted a now ts (ts ++ (t ∷ [])) told u (putting (y.written t)) (asked_sound a u asks) tt (mapped_none _ _ f) b.wire _ _ e.out
       (λ z k. Memᴰ.append_left (t ∷ []) k)
       (λ x k. (t, Memᴰ.append_right ts (Memᴰ.head refl), elim (Memᴰ.cases_cons k) [ inl i ↦ sym i | inr i ↦ no_hand x i ])))
   led a b (call.deliver u k) v now ts told ok e =
-      let (asks, f) = both_none _ _ ok in
-      let (reads, g) = both_none _ _ f in
+      let (first, g) = both_none _ _ ok in
+      let (asks, reads) = both_none _ _ first in
       let (looks, h) = both_none _ _ reads in
-      let (lt, lk, long) = look_asked a.wire u k (replicate packet_bytes 0) (wire_none _ looks) in
+      let (lt, lk, long) = look_asked a.wire u k (replicate packet_bytes 0) (mapped_none _ _ looks) in
       let act = receiving (waiting_at a u k).sender (handed (waiting_at a u k).bytes) in
       subst (λ (z : World). Told y z (after views a.table now u act) (ts ++ [])) (sym e.units)
-      (acted a now ts (ts ++ []) told u act (asked_sound a u asks) (delivered a now ts told u k lt lk) (unit_none _ g) b.wire _ _ e.out
+      (acted a now ts (ts ++ []) told u act (asked_sound a u asks) (delivered a now ts told u k lt lk) (mapped_none _ _ g) b.wire _ _ e.out
       (λ z i. Memᴰ.append_left [] i) (λ x i. no_hand x i))
   led a b (call.announce u) v now ts told ok e = unchanged a b now ts e.0 told
   led a b (call.raise u w) v now ts told ok e =
       let (asks, f) = both_none _ _ ok in
       subst (λ (z : World). Told y z (after views a.table now u (raising w)) (ts ++ [])) (sym e.units)
-      (acted a now ts (ts ++ []) told u (raising w) (asked_sound a u asks) tt (unit_none _ f) b.wire _ _ e.out (λ z i. Memᴰ.append_left [] i) (λ x i. no_hand x i))
+      (acted a now ts (ts ++ []) told u (raising w) (asked_sound a u asks) tt (mapped_none _ _ f) b.wire _ _ e.out (λ z i. Memᴰ.append_left [] i) (λ x i. no_hand x i))
   led a b (call.repeat u) v now ts told ok e =
       let (asks, f) = both_none _ _ ok in
       subst (λ (z : World). Told y z (after views a.table now u repeating) (ts ++ [])) (sym e.units)

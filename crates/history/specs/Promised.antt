@@ -13,7 +13,7 @@ use Rattle.agreement.specs.Runs.{worked}
 use Rattle.agreement.specs.Invariant.{NoneFalse}
 use Rattle.calls.specs.declared.shown.Shown.{Shown}
 use Rattle.calls.specs.Worlds.{World, unit_at, Sound, ready}
-use Rattle.calls.specs.Calls.{Ways, in_view, Shows}
+use Rattle.calls.specs.Calls.{Ways, Shows}
 use Rattle.history.specs.Runs.{Run, deeds_of, tickets_of}
 
 -- the unit has announced, and this is what announce shows of it
@@ -33,8 +33,8 @@ pub record Promised {T : Type 0} (y : Ways T) (w : World) (run : Run y w) : Type
   -- the choice from a sound unit's reports of a listed quorum without a false unit is not torn
   pub sound_quorum_is_not_torn : (u q : ℕ) → Sound w u → IsQuorum w.table q → ((x : ℕ) → In w.table q x → Has w.falses x → ⊥)
       → shown_choice w.table (unit_at w u) q ≢ Some Torn
-  -- 11 is never met again: the units' memory, the wire's units and the views stay
-  pub nothing_runs_out : (ready w.table.units (length w.units) w.wire.served ≡ None) × ((u : ℕ) → Sound w u → in_view (unit_at w u) ≡ None)
+  -- 11 would never be met again: the units' memory and the wire's units stay, and each unit stays in one of the views
+  pub nothing_runs_out : (ready w.table.units (length w.units) w.wire.served ≡ None) × ((u : ℕ) → Sound w u → (unit_at w u).view < views)
   -- each unit's state is the one that the rules give, worked from fresh units through the accepted calls in order
   pub state_is_the_replay : (u : ℕ) → Sound w u → unit_at w u ≡ (worked views w.table (deeds_of run)).units u
 

@@ -1,5 +1,5 @@
 -- A packet that is written says what was written, where each number fits its word.
-use Rattle.std.proofs.Common.{◌≡◌, ℕ, zero, suc, ◌^◌, ◌<◌, ◌≤◌, List, [], ◌∷◌, length, get_or, take, drop, Some, None, Option, sym, refl, ap, ◌∙◌, ap₂, arith}
+use Rattle.std.proofs.Common.{◌≡◌, ℕ, zero, suc, ◌^◌, ◌<◌, ◌≤◌, List, [], ◌∷◌, length, get_or, get_or-take, take, drop, Some, None, Option, sym, refl, ap, ◌∙◌, ap₂, arith}
 use Rattle.base.specs.Limits.{views, packet_bytes}
 use Rattle.rows.specs.declared.row.Row.{Row}
 use Rattle.ticket.specs.Writings.{Words}
@@ -11,7 +11,10 @@ use Rattle.packet_write.proofs.Lengths.{report_length}
 use Rattle.packet_laws.proofs.Parts.{ticket_here, row_here}
 use Rattle.packet_laws.proofs.Entries.{stands_none, stands_row}
 use Rattle.unit.specs.States.{below}
-use Rattle.sending.specs.Fitting.{RowFits, EntryFits}
+use Rattle.unit.specs.Letters.{said_of}
+use Rattle.unit.specs.declared.letter.Letter.{Letter}
+use Rattle.unit.specs.declared.letter.Letter.TheVariants as letters
+use Rattle.sending.specs.Letters.{RowFits, EntryFits, RowsFit, IsOwn}
 use Rattle.calls.specs.Calls.{packet_said, heard_as, handed}
 
 -- each entry fits
@@ -19,13 +22,13 @@ unfoldable pub AllFit : List (Option Row) → Type 0
 AllFit [] = Unit {0}
 AllFit (e ∷ es) = EntryFits e × AllFit es
 
-pub put_back : (v : ℕ) (t : Writing) → v < 2 ^ 32 → Words t → handed (packet_said (says_put v t)) ≡ says_put v t
+put_back : (v : ℕ) (t : Writing) → v < 2 ^ 32 → Words t → handed (packet_said (says_put v t)) ≡ says_put v t
 unfolding said_by writing
 put_back v t h f =
     let bs = writing (says_put v t) in
     ap heard_as (ap₂ says_put (word_of v h) (ticket_here bs [] 8 t f refl))
 
-pub row_back : (v : ℕ) (r : Row) → v < 2 ^ 32 → RowFits r → handed (packet_said (says_row v r)) ≡ says_row v r
+row_back : (v : ℕ) (r : Row) → v < 2 ^ 32 → RowFits r → handed (packet_said (says_row v r)) ≡ says_row v r
 unfolding said_by writing
 row_back v r h f =
     let bs = writing (says_row v r) in
@@ -79,12 +82,16 @@ unfolding AllFit
 all_fit [] f = tt
 all_fit (e ∷ es) f = (f 0 (omega arith), all_fit es (λ k h. f (suc k) (omega arith)))
 
-pub report_back :
-    (w : ℕ) (rows : List (Option Row)) → w < views → length rows ≡ views → below w rows ≡ rows
-    → ((k : ℕ) → k < length (take w rows) → EntryFits (get_or (take w rows) k None)) → handed (packet_said (says_report w rows)) ≡ says_report w rows
-report_back w rows low long only f =
-    ap heard_as (report_of_lem w (take w rows) (taken_length w rows (omega arith)) (omega arith) (all_fit (take w rows) f))
-    ∙ ap (says_report w) (ap (λ n. padded n (take w rows)) (sym long) ∙ padded_back w rows only)
+report_back : (w : ℕ) (rows : List (Option Row)) → w < views → RowsFit rows → below w rows ≡ rows → handed (packet_said (says_report w rows)) ≡ says_report w rows
+report_back w rows low fit only =
+    ap heard_as (report_of_lem w (take w rows) (taken_length w rows (omega (arith, fit.whole))) (omega arith) (all_fit (take w rows) (λ k h. let t : k < w = omega (arith, taken_length w rows (omega (arith, fit.whole))) in rw (get_or-take) (fit.each k (omega (arith, fit.whole))))))
+    ∙ ap (says_report w) (ap (λ n. padded n (take w rows)) (sym fit.whole) ∙ padded_back w rows only)
 
 pub report_short : (w : ℕ) (rows : List (Option Row)) → w < views → length rows ≡ views → length (packet_said (says_report w rows)) ≤ packet_bytes
 report_short w rows low long = omega (arith, report_length w (take w rows), taken_length w rows (omega arith))
+
+-- what a unit's own letter is written as says the letter
+pub own_back : (letter : Letter) → IsOwn letter → handed (packet_said (said_of letter)) ≡ said_of letter
+own_back (letters.Put v t) own = put_back v t (omega (arith, own.0)) own.1
+own_back (letters.Row v r) own = row_back v r (omega (arith, own.0)) own.1
+own_back (letters.Report w rows) own = report_back w rows.now own.0 own.1 own.2

@@ -1,24 +1,21 @@
 -- Sends in a row.
-use Rattle.std.proofs.Common.{◌≡◌, ℕ, ◌+◌, ◌<◌, ◌≤◌, Bool, true, false, List, [], ◌∷◌, ◌++◌, length, take, Some, None, sym, refl, ap, ◌∙◌, subst, add-zero, add_assoc, zero-add, arith}
-use Rattle.std.proofs.lemmas.List.{take_at}
+use Rattle.std.proofs.Common.{◌≡◌, ℕ, ◌+◌, ◌<◌, ◌≤◌, Bool, true, false, List, [], ◌∷◌, ◌++◌, length, Some, None, Option, IsSome, IfSome, sym, refl, ◌∙◌, subst, add-zero, add_assoc, zero-add, arith}
 use Rattle.std.proofs.lemmas.Bool.Decides.{nat_tests}
 use Rattle.base.specs.Limits.{packet_bytes}
 use Rattle.packet.specs.Said.{Said}
+use Rattle.packet_write.specs.Writes.{Wrote}
+use Rattle.unit.specs.Letters.{said_of}
 use Rattle.unit.specs.Sending.{only_if}
+use Rattle.unit.specs.declared.letter.Letter.{Letter}
+use Rattle.std.specs.Bool.{then_some}
 use Rattle.wire.specs.Meaning.{Meaning, Rule}
-use Rattle.wire.specs.Sends.{Sent, none, laid, lost, SentAll, send_fault}
+use Rattle.wire.specs.Sends.{SentAll, send_fault}
+use Rattle.wire.proofs.Effects.{sent_served}
 use Rattle.wire.specs.declared.answers.Tally.{Tally}
 use Rattle.wire.specs.declared.fault.WireFault.{WireFault}
 use Rattle.calls.specs.Calls.{packet_said, handed, tallied, GoesOut, nothing, next}
+use Rattle.sending.specs.Letters.{said_in, IsOwn}
 use Rattle.sending.specs.Went.{Went}
-
--- what is not wanted, or not there
-pub unwanted : (b : Bool) (ms : List Said) → b ≡ false → only_if b ms ≡ []
-unwanted b ms e = ap (λ (z : Bool). only_if z ms) e
-
-pub absent : (b : Bool) (ms : List Said) → ms ≡ [] → only_if b ms ≡ []
-absent true ms e = e
-absent false ms e = refl
 
 -- the questions of a send to all are met
 pub send_met : (a : Meaning) (from n : ℕ) (packet : List ℕ) (e : WireFault) → a.served ≡ n → from < n → length packet ≤ packet_bytes → send_fault a from n packet ≡ Some e → ⊥
@@ -28,11 +25,6 @@ send_met a from n packet e s f l bad =
     omega arith
 
 module _ (rule : Rule) where
-  sent_served : (from : ℕ) (packet : List ℕ) (a : Meaning) (n : ℕ) (b : Meaning) (x y : ℕ) → Sent rule from packet a n b x y → b.served ≡ a.served
-  sent_served from packet a _ _ _ _ none = refl
-  sent_served from packet a _ c _ _ (laid {n = n} {b = b} {x = x} {y = y} before did) = did.1.served ∙ sent_served from packet a n b x y before
-  sent_served from packet a _ b _ _ (lost {n = n} {x = x} {y = y} before full) = sent_served from packet a n b x y before
-
   module _ (n from : ℕ) where
     -- one message
     pub went_one : (m : Said) (packet : List ℕ) (a b : Meaning) (tally : Tally) → handed (packet_said m) ≡ m → packet ≡ packet_said m → SentAll rule a from n packet tally b → Went rule n from (m ∷ []) a b tally
@@ -41,7 +33,7 @@ module _ (rule : Rule) where
         let one : GoesOut rule n from (m ∷ []) a b (tally.laid + 0) (tally.lost + 0) = next back s nothing in
         record {
           out = subst (λ x. GoesOut rule n from (m ∷ []) a b x tally.lost) (add-zero tally.laid) (subst (λ y. GoesOut rule n from (m ∷ []) a b (tally.laid + 0) y) (add-zero tally.lost) one);
-          served = sent_served from (packet_said m) a n b tally.laid tally.lost s.chain;
+          served = sent_served rule from (packet_said m) a n b tally.laid tally.lost s.chain;
           few = omega (arith, s.every);
         }
 
@@ -57,6 +49,25 @@ module _ (rule : Rule) where
         subst (λ k. GoesOut rule n from (m ∷ (ms ++ ns)) a c k (t.lost + q + y')) (sym (add_assoc t.laid p x'))
         (subst (λ k. GoesOut rule n from (m ∷ (ms ++ ns)) a c (t.laid + (p + x')) k) (sym (add_assoc t.lost q y')) (next back sent tail))
 
--- the front of the bytes that a packet was written to
-pub front : (p rest buf : List ℕ) (n : ℕ) → n ≡ length p → buf ≡ p ++ rest → take n buf ≡ p
-front p rest buf n l whole = ap (take n) whole ∙ take_at p rest n (sym l)
+    -- three letters in a row, each over the wire that the one before left
+    pub went_on : (ms ns os : List Said) (a b c d : Meaning) (put row report : Tally) → n ≡ a.served → Went rule a.served from ms a b put → Went rule b.served from ns b c row → Went rule c.served from os c d report
+        → GoesOut rule n from (ms ++ (ns ++ os)) a d (put.laid + (row.laid + report.laid)) (put.lost + (row.lost + report.lost))
+    went_on ms ns os a b c d put row report e p q r =
+        let to_b : n ≡ b.served = e ∙ sym p.served in
+        let to_c : n ≡ c.served = to_b ∙ sym q.served in
+        goes_on ms (ns ++ os) a b d put.laid put.lost (row.laid + report.laid) (row.lost + report.lost) (rw e p.out)
+        (goes_on ns os b c d row.laid row.lost report.laid report.lost (rw to_b q.out) (rw to_c r.out))
+
+-- bytes that are short enough are written
+pub wrote_some : (bs before after : List ℕ) (r : Option ℕ) → Wrote bs before after r → length bs ≤ length before → IsSome r
+wrote_some bs before after None w h = absurd (omega (arith, w.0))
+wrote_some bs before after (Some n) w h = refl
+
+-- a letter that is wanted or not
+pub wanted_own : (letter : Letter) (wanted : Bool) → IsOwn letter → IfSome (then_some wanted letter) IsOwn
+wanted_own letter true own = own
+wanted_own letter false own = tt
+
+pub wanted_said : (letter : Letter) (wanted : Bool) → said_in (then_some wanted letter) ≡ only_if wanted (said_of letter ∷ [])
+wanted_said letter true = refl
+wanted_said letter false = refl

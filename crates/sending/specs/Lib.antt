@@ -1,2 +1,2 @@
-pub mod Fitting
+pub mod Letters
 pub mod Went

@@ -1,69 +1,22 @@
 // The calls of a shed.
-ghost use Rattle.std.specs.Prelude.{◌≡◌, length, Some, None, MatchResult};
 ghost use Rattle.calls.specs.Calls as call;
 ghost use Rattle.calls.specs.Calls.{Did, ways};
-ghost use Rattle.calls.specs.Worlds.{asked, asked_named, asked_forged, Ready};
 ghost use Rattle.history.specs.Promised.{Promised};
 ghost use Rattle.history.specs.Runs.{Run};
 ghost use Rattle.shed.specs.Means.{world_of};
 
-use crate::lending;
 use crate::shed::Shed;
-use calls::{
-    ShedFault, Shown, announcement_at, ask_forged, ask_named, ask_sound, choice_at, memory_of,
-    show, show_choice,
-};
+use calls::{ShedFault, Shown, announcement_at, choice_at, show, show_choice};
 use choice::Choice;
 use ticket::Ticket;
 use wire::{Tally, Wire};
 
 impl<'a, T: Ticket, W: Wire> Shed<'a, T, W> {
-    // What a call asks first of a unit that it is to work with.
-    fn ask(&self, unit: u32) -> Result<(), ShedFault>
-        ensures { MatchResult result
-            (λ _. (asked (world_of W.means self.now) unit ≡ None)
-            × Ready (world_of W.means self.now).table.units (length self.now.units.now) (world_of W.means self.now).wire.served unit)
-            (λ e. asked (world_of W.means self.now) unit ≡ Some e) }
-    {
-        let n = self.table.units();
-        let memory = memory_of(&*self.units);
-        let served = self.wire.served();
-        ask_sound(n, self.false_set, memory, served, unit)
-    }
-
-    // Of a unit, sound or false.
-    fn ask_any(&self, unit: u32) -> Result<(), ShedFault>
-        ensures { MatchResult result (λ _. asked_named (world_of W.means self.now) unit ≡ None) (λ e. asked_named (world_of W.means self.now) unit ≡ Some e) }
-    {
-        let n = self.table.units();
-        let memory = memory_of(&*self.units);
-        let served = self.wire.served();
-        ask_named(n, memory, served, unit)
-    }
-
-    // Of the sender and the addressee of a forged packet.
-    fn ask_forgery(&self, sender: u32, to: u32) -> Result<(), ShedFault>
-        ensures { MatchResult result (λ _. asked_forged (world_of W.means self.now) sender to ≡ None) (λ e. asked_forged (world_of W.means self.now) sender to ≡ Some e) }
-    {
-        let n = self.table.units();
-        let memory = memory_of(&*self.units);
-        let served = self.wire.served();
-        ask_forged(n, self.false_set, memory, served, sender, to)
-    }
-
     // A unit puts a ticket.
     pub fn put(&mut self, unit: u32, ticket: &T) -> Result<Tally, ShedFault>
         ensures { Did (ways T.written T.refuses W.rule) (world_of W.means self.old) (call.put unit ticket.now) result (world_of W.means self.new) }
     {
-        let writing = ticket.writing();
-        lending::put(
-            &mut self.wire,
-            &mut self.units,
-            &self.table,
-            self.false_set,
-            unit,
-            writing,
-        )
+        self.world.put(unit, ticket.writing())
     }
 
     // A unit is handed the packet that waits for it at a place; the packet stays waiting.
@@ -71,49 +24,30 @@ impl<'a, T: Ticket, W: Wire> Shed<'a, T, W> {
         ensures { Did (ways T.written T.refuses W.rule) (world_of W.means self.old) (call.deliver unit place) result (world_of W.means self.new) }
     {
         // the unit first, then what waits for it
-        lending::deliver::<T, W>(
-            &mut self.wire,
-            &mut self.units,
-            &self.table,
-            self.false_set,
-            unit,
-            place,
-        )
+        self.world.deliver::<T>(unit, place)
     }
 
     // A unit raises its view.
     pub fn raise(&mut self, unit: u32, view: u32) -> Result<Tally, ShedFault>
         ensures { Did (ways T.written T.refuses W.rule) (world_of W.means self.old) (call.raise unit view) result (world_of W.means self.new) }
     {
-        lending::raise(
-            &mut self.wire,
-            &mut self.units,
-            &self.table,
-            self.false_set,
-            unit,
-            view,
-        )
+        self.world.raise(unit, view)
     }
 
     // A unit sends again what it has of its view.
     pub fn repeat(&mut self, unit: u32) -> Result<Tally, ShedFault>
         ensures { Did (ways T.written T.refuses W.rule) (world_of W.means self.old) (call.repeat unit) result (world_of W.means self.new) }
     {
-        lending::repeat(
-            &mut self.wire,
-            &mut self.units,
-            &self.table,
-            self.false_set,
-            unit,
-        )
+        self.world.repeat(unit)
     }
 
     // A packet that waits for a unit is lost.
     pub fn lose(&mut self, unit: u32, place: u32) -> Result<Tally, ShedFault>
         ensures { Did (ways T.written T.refuses W.rule) (world_of W.means self.old) (call.lose unit place) result (world_of W.means self.new) }
     {
-        self.ask_any(unit)?;
-        self.wire.drop(unit, place)?;
+        let world = &mut self.world;
+        world.sides().ask_named(unit)?;
+        world.wire.drop(unit, place)?;
         Ok(Tally { laid: 0, lost: 0 })
     }
 
@@ -121,17 +55,18 @@ impl<'a, T: Ticket, W: Wire> Shed<'a, T, W> {
     pub fn forge(&mut self, sender: u32, to: u32, packet: &[u8]) -> Result<Tally, ShedFault>
         ensures { Did (ways T.written T.refuses W.rule) (world_of W.means self.old) (call.forge sender to packet.now) result (world_of W.means self.new) }
     {
-        self.ask_forgery(sender, to)?;
-        self.wire.post(sender, to, packet)?;
+        let world = &mut self.world;
+        world.sides().ask_forged(sender, to)?;
+        world.wire.post(sender, to, packet)?;
         Ok(Tally { laid: 1, lost: 0 })
     }
 
     fn shown(&self, unit: u32) -> Result<Option<Shown<T>>, ShedFault>
         ensures { Did (ways T.written T.refuses W.rule) (world_of W.means self.now) (call.announce unit) result (world_of W.means self.now) }
     {
-        self.ask(unit)?;
-        let announced = announcement_at(&*self.units, unit);
-        show::<T>(announced)
+        let world = &self.world;
+        world.ask(unit)?;
+        show::<T>(announcement_at(&world.units, unit))
     }
 
     // What a unit has announced, if it has, with its ticket as one of the kind. After any calls: no two sound units
@@ -147,8 +82,9 @@ impl<'a, T: Ticket, W: Wire> Shed<'a, T, W> {
     pub fn choice(&self, unit: u32, quorum: u32) -> Result<Option<Choice<T>>, ShedFault>
         ensures { Did (ways T.written T.refuses W.rule) (world_of W.means self.now) (call.choice unit quorum) result (world_of W.means self.now) }
     {
-        self.ask(unit)?;
-        let chosen = choice_at(&*self.units, &self.table, unit, quorum);
+        let world = &self.world;
+        world.ask(unit)?;
+        let chosen = choice_at(&world.units, &world.table, unit, quorum);
         show_choice::<T>(chosen)
     }
 }

@@ -2,7 +2,6 @@
 #![tactic(auto)]
 
 mod calling;
-mod lending;
 mod making;
 mod shed;
 

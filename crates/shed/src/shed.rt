@@ -1,14 +1,11 @@
 // A shed.
+use acting::World;
 use std::marker::PhantomData;
-use table::Passed;
-use unit::ControlUnit;
+use wire::Wire;
 
-// Units and a wire that are lent, under a table that has passed and a false set, for tickets of one kind.
+// A world whose tickets are of one kind.
 #[derive(Drop)]
-pub struct Shed<'a, T, W> {
-    pub(crate) table: Passed<'a>,
-    pub(crate) false_set: u16,
-    pub(crate) units: &'a mut [ControlUnit],
-    pub(crate) wire: &'a mut W,
+pub struct Shed<'a, T, W: Wire> {
+    pub(crate) world: World<'a, W>,
     pub(crate) kind: PhantomData<T>,
 }

@@ -1,19 +1,24 @@
-use Rattle.std.proofs.Common.{◌<◌, length, sym, subst, arith}
-use Rattle.base.specs.Limits.{views}
-use Rattle.unit.specs.States.{State}
-use Rattle.unit.specs.Sending.{outgoing}
-use Rattle.calls.specs.Calls.{GoesOut}
-use Rattle.calls.proofs.Lent.{state_at_lem}
+use Rattle.std.proofs.Common.{◌≡◌, [], ◌∷◌, sym, refl, ap, ap₂, ◌∙◌}
+use Rattle.packet.specs.Said.{says_report}
+use Rattle.unit.specs.States.{means as state_of, below}
+use Rattle.unit.specs.Sending.{only_if, report_said}
+use Rattle.sending.specs.Letters.{said_in}
+use Rattle.sending.proofs.Backs.{below_twice}
+use Rattle.sending.proofs.Going.{went_on, wanted_own, wanted_said}
 use Rattle.sending.proofs.sending.go_out.Goals as goal
 
-pub unit_out-requires : goal.unit_out-requires
-unit_out-requires g c =
-    let h : c.args.me < length c.args.units.now = omega (arith, c.requires.named, c.requires.held) in
-    let e = state_at_lem c.args.units.now c.args.me _ h in
-    record { serves = c.requires.serves; named = c.requires.named; few = c.requires.few; low = λ r. subst (λ (s : State). s.view < views) e (c.requires.low r) }
+pub send-report-requires-clause-own : goal.send-report-requires-clause-own
+send-report-requires-clause-own g c =
+    let s = state_of c.args.unit.now in
+    let v = c.view.ensures.is in
+    let r = c.report-rows.ensures in
+    let only : below c.view.result c.report-rows.result ≡ c.report-rows.result = ap₂ below v r ∙ below_twice s.view s.own ∙ sym r in
+    rw c.then_some.ensures (wanted_own _ c.args.sends.report (c.view.ensures.low, c.rows_fit.ensures, only))
 
-pub returns : goal.returns
-returns g c =
-    let h : c.args.me < length c.args.units.now = omega (arith, c.requires.named, c.requires.held) in
-    let e = state_at_lem c.args.units.now c.args.me _ h in
-    subst (λ (s : State). GoesOut g.W.Wire.rule c.args.n c.args.me (outgoing c.args.sends s) (g.W.Wire.means c.args.wire.now) (g.W.Wire.means c.unit_out.new.wire) c.unit_out.result.laid c.unit_out.result.lost) (sym e) c.unit_out.ensures
+pub returns-clause-out : goal.returns-clause-out
+returns-clause-out g c =
+    let s = state_of c.args.unit.now in
+    let said : said_in c.then_some.result ≡ only_if c.args.sends.report (report_said s) =
+    ap said_in c.then_some.ensures ∙ wanted_said _ c.args.sends.report ∙ ap₂ (λ v rows. only_if c.args.sends.report (says_report v rows ∷ [])) c.view.ensures.is c.report-rows.ensures in
+    let out = went_on g.W.Wire.rule _ c.args.me _ _ _ _ _ _ _ _ _ _ refl c.send-put.ensures c.send-row.ensures c.send-report.ensures in
+    rw (c.put_letter.ensures.said, c.row_letter.ensures.said, said) at out

@@ -1,8 +1,8 @@
-use Rattle.std.proofs.Common.{◌<◌, length, arith}
-use Rattle.calls.proofs.Lent.{renewed_more}
+use Rattle.std.proofs.Common.{◌∙◌, ap, replicate, rules}
+use Rattle.unit.specs.States.{fresh}
+use Rattle.calls.proofs.Lent.{all_fresh}
 use Rattle.shed.proofs.making.renew.Goals as goal
 
-pub loop-u-preserved : goal.loop-u-preserved
-loop-u-preserved c =
-    let h : c.loop-u.u < length c.args.units.now = omega arith in
-    renewed_more c.args.units.now c.loop-u.units c.fresh.result c.loop-u.u h c.loop-u.invariant c.fresh.ensures
+pub returns : goal.returns
+returns c = let (last, ran) = c.fill_with.ensures.ran in
+    all_fresh _ c.fill_with.new.self _ last (λ p q x called. search rules) ran ∙ ap (λ n. replicate n fresh) c.fill_with.ensures.len
