@@ -1,32 +1,18 @@
 // The program: one order of the mill, from its table on. Each part prints what it did and what came of it.
 #![tactic(auto)]
 
-mod tables;
-mod tickets;
 mod units;
-mod wires;
 
+use mill::{change_table, check_tables, mill_table, rose_damask, show_tickets, show_wires};
 use std::io;
 use ticket::Ticket;
 
-// The units agree on the rose damask.
-fn weave_order(rt: &impl Print) -> io::Result<()> {
-    match tickets::rose_damask() {
-        None => println!(rt; "no order"),
-        Some(plan) => {
-            let ticket = plan.writing();
-            wires::show_wires(rt, ticket)?;
-            match tables::mill_table().pass() {
-                Ok(passed) => units::show_units(rt, &passed, ticket),
-                Err(_) => println!(rt; "the mill's table does not pass"),
-            }
-        }
-    }
-}
-
 fn main(rt: HostRuntime) -> io::Result<()> {
-    tables::check_tables(&rt)?;
-    tables::change_table(&rt)?;
-    tickets::show_tickets(&rt)?;
-    weave_order(&rt)
+    check_tables(&rt)?;
+    change_table(&rt)?;
+    show_tickets(&rt)?;
+    // the units agree on the rose damask
+    let ticket = rose_damask().writing();
+    show_wires(&rt, ticket)?;
+    units::show_units(&rt, &mill_table(), ticket)
 }

@@ -1,95 +1,142 @@
 // Sheds that are not made, and calls that are refused.
-use crate::said::print_fault;
-use crate::script::{deliver, forge, lose, put, raise, repeat};
-use crate::tables::mill_table;
-use crate::week::announce;
-use base::PACKET_BYTES;
+use crate::call::{Call, announce};
+use base::{Fault, PACKET_BYTES};
 use boxes::Boxes;
 use calls::ShedFault;
+use mill::mill_table;
 use shed::Shed;
-use std::io;
-use ticket::Plan;
+use std::{fmt, io};
+use ticket::{Plan, Ticket};
 use unit::ControlUnit;
 use wire::{Slot, Wire};
 
-// Tries to make a shed over so many units on a wire that serves so many, where a packet may wait already.
-fn try_make(
-    rt: &impl Print,
+// A shed that is made or not: which units are false, for how many there is memory, how many the wire serves, and a packet that waits already.
+#[derive(Clone, Copy)]
+struct Making {
     false_set: u16,
-    units: &mut [ControlUnit],
+    memory: usize,
     served: u32,
-    waits: bool,
-) -> io::Result<()> {
-    let memory = units.len();
-    print!(rt; "false set {false_set}, {memory} units, a wire that serves {served}: ")?;
-    let passed = match mill_table().pass() {
-        Ok(passed) => passed,
-        Err(fault) => return print_fault(rt, ShedFault::Table(fault)),
-    };
-    let mut slots = [Slot::empty(); 8];
-    let mut wire = match Boxes::make(served, 1, &mut slots) {
-        Ok(wire) => wire,
-        Err(fault) => return print_fault(rt, ShedFault::Wire(fault)),
-    };
-    if waits {
-        let _ = wire.post(0, 1, &[1]);
+    waiting: Option<&'static [u8]>,
+}
+
+// One that is made.
+const FINE: Making = Making {
+    false_set: 8,
+    memory: 4,
+    served: 4,
+    waiting: None,
+};
+
+// The others differ from it in one thing.
+const MAKINGS: [Making; 7] = [
+    FINE,
+    Making {
+        false_set: 12,
+        ..FINE
+    },
+    Making {
+        false_set: 16,
+        ..FINE
+    },
+    Making { memory: 3, ..FINE },
+    Making { served: 3, ..FINE },
+    Making { served: 5, ..FINE },
+    Making {
+        waiting: Some(&[1]),
+        ..FINE
+    },
+];
+
+impl Making {
+    // Tries to make it.
+    fn make(self, units: &mut [ControlUnit]) -> Result<(), ShedFault> {
+        let mut slots = [Slot::empty(); 8];
+        let mut wire = Boxes::make(self.served, 1, &mut slots)?;
+        if let Some(packet) = self.waiting {
+            wire.post(0, 1, packet)?;
+        }
+        let memory = units.len().min(self.memory);
+        let _shed: Shed<Plan, Boxes> = Shed::make(
+            mill_table(),
+            self.false_set,
+            &mut units[..memory],
+            &mut wire,
+        )?;
+        Ok(())
     }
-    let made: Result<Shed<Plan, Boxes>, ShedFault> = Shed::make(
-        passed, false_set, units, &mut wire,
-    );
-    match made {
-        Ok(_) => println!(rt; "made"),
-        Err(fault) => print_fault(rt, fault),
+}
+
+impl fmt::Display for Making {
+    fn fmt<W: fmt::Write>(&self, f: &mut fmt::Formatter<W>) -> fmt::Result {
+        write!(
+            f,
+            "false set {}, {} units, a wire that serves {}",
+            self.false_set, self.memory, self.served
+        )
     }
 }
 
 // The shed's own questions at making.
-pub fn show_makings(rt: &impl Print, units: &mut [ControlUnit; 4]) -> io::Result<()> {
-    try_make(rt, 8, &mut units[0..4], 4, false)?;
-    try_make(rt, 12, &mut units[0..4], 4, false)?;
-    try_make(rt, 16, &mut units[0..4], 4, false)?;
-    try_make(rt, 8, &mut units[0..3], 4, false)?;
-    try_make(rt, 8, &mut units[0..4], 3, false)?;
-    try_make(rt, 8, &mut units[0..4], 5, false)?;
-    try_make(rt, 8, &mut units[0..4], 4, true)
+pub fn show_makings(rt: &impl Print, units: &mut [ControlUnit]) -> io::Result<()> {
+    for making in MAKINGS {
+        match making.make(units) {
+            Ok(()) => println!(rt; "{making}: made")?,
+            Err(fault) => println!(rt; "{making}: {}", fault.code())?,
+        }
+    }
+    Ok(())
 }
 
-// Calls of a shed whose units have one place each.
-fn show_calls(
+// Calls of a shed whose units have one place each. For any kind of ticket: tried with plans alone, and a call that refers to one,
+// whose type has facts, gets no proof.
+fn show_calls<T: Ticket + Drop, W: Wire>(
     rt: &impl Print,
-    shed: &mut Shed<'_, Plan, Boxes<'_>>,
-    order: &Plan,
+    shed: &mut Shed<'_, T, W>,
+    order: &T,
 ) -> io::Result<()> {
-    forge(rt, shed, 3, 1, &[1, 2, 3])?;
-    deliver(rt, shed, 1, 0)?;
-    put(rt, shed, 0, order)?;
-    forge(rt, shed, 3, 1, &[1, 2, 3, 4])?;
-    let long = [0; PACKET_BYTES + 1];
-    forge(rt, shed, 3, 2, &long)?;
-    raise(rt, shed, 0, 0)?;
-    repeat(rt, shed, 2)?;
-    lose(rt, shed, 3, 0)?;
-    lose(rt, shed, 3, 0)
+    let calls = [
+        Call::Forge {
+            sender: 3,
+            to: 1,
+            packet: &[1, 2, 3],
+        },
+        Call::Deliver { unit: 1, place: 0 },
+        Call::Put {
+            unit: 0,
+            ticket: order,
+        },
+        Call::Forge {
+            sender: 3,
+            to: 1,
+            packet: &[1, 2, 3, 4],
+        },
+        Call::Forge {
+            sender: 3,
+            to: 2,
+            packet: &[0; PACKET_BYTES + 1],
+        },
+        Call::Raise { unit: 0, view: 0 },
+        Call::Repeat { unit: 2 },
+        Call::Lose { unit: 3, place: 0 },
+        Call::Lose { unit: 3, place: 0 },
+    ];
+    for call in calls {
+        call.show(rt, shed)?;
+    }
+    Ok(())
 }
 
 // What the calls refuse, over boxes that are soon full.
 pub fn show_refusals(rt: &impl Print, units: &mut [ControlUnit], order: &Plan) -> io::Result<()> {
-    let passed = match mill_table().pass() {
-        Ok(passed) => passed,
-        Err(fault) => return print_fault(rt, ShedFault::Table(fault)),
-    };
     let mut slots = [Slot::empty(); 4];
-    let mut wire = match Boxes::make(4, 1, &mut slots) {
-        Ok(wire) => wire,
-        Err(fault) => return print_fault(rt, ShedFault::Wire(fault)),
-    };
-    let mut shed: Shed<Plan, Boxes> = match Shed::make(passed, 8, units, &mut wire) {
+    let mut wire = Boxes::make(4, 1, &mut slots).unwrap();
+    let mut shed = match Shed::make(mill_table(), 8, units, &mut wire) {
         Ok(shed) => shed,
-        Err(fault) => return print_fault(rt, fault),
+        Err(fault) => return println!(rt; "{}", fault.code()),
     };
     show_calls(rt, &mut shed, order)?;
-    announce(rt, &shed, 0)?;
-    announce(rt, &shed, 3)?;
-    announce(rt, &shed, 9)?;
+    for unit in [0, 3, 9] {
+        announce(rt, &shed, unit)?;
+    }
     Ok(())
 }

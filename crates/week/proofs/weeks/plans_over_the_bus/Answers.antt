@@ -1,5 +1,0 @@
-use Rattle.history.specs.Runs.{made}
-use Rattle.week.proofs.weeks.plans_over_the_bus.Goals as goal
-
-pub returns : goal.returns
-returns g c = c.compare.ensures (made c.in-Ok-make-2.ensures.made)
