@@ -26,7 +26,7 @@ pub type Pair<T> = (Option<Shown<T>>, Option<Shown<T>>);
 const FALSE_UNITS: u16 = 8;
 
 // Hands a unit what waits at each of the places.
-fn deliver_all<T: Ticket, W: Wire>(
+pub fn deliver_all<T: Ticket, W: Wire>(
     rt: &impl Print,
     shed: &mut Shed<'_, T, W>,
     unit: u32,
@@ -77,7 +77,7 @@ impl<T: Ticket + Drop> Week<T> {
         let call = match step {
             Step::On(day) => return println!(rt; "{day}"),
             Step::Choice { unit, quorum } => return choice(rt, shed, unit, quorum),
-            Step::Deliver { unit, at } => return deliver_all(rt, shed, unit, at),
+            Step::Deliver { unit, from, to } => return deliver_all(rt, shed, unit, from..to),
             Step::PutOrder { unit } => Call::Put {
                 unit,
                 ticket: &self.order,
@@ -104,20 +104,30 @@ impl<T: Ticket + Drop> Week<T> {
     }
 
     // One step after another.
-    fn run<W: Wire>(&self, rt: &impl Print, shed: &mut Shed<'_, T, W>) -> io::Result<()>
+    pub fn run<W: Wire>(
+        &self,
+        rt: &impl Print,
+        shed: &mut Shed<'_, T, W>,
+        steps: &[Step],
+    ) -> io::Result<()>
         ensures { Continues (ways T.written T.refuses W.rule) (world_of W.means shed.old) (world_of W.means shed.new) }
     {
-        for step in WEEK {
-            self.act(rt, shed, step)?;
+        for step in steps {
+            self.act(rt, shed, *step)?;
         }
         Ok(())
     }
 
-    // Goes through the week and shows what units 0 and 2 announced: from a made shed on, they announced one ticket.
-    fn compare<W: Wire>(&self, rt: &impl Print, shed: &mut Shed<'_, T, W>) -> io::Result<Pair<T>>
+    // Goes through any steps and shows what units 0 and 2 announced: from a made shed on, they announced one ticket.
+    pub fn compare<W: Wire>(
+        &self,
+        rt: &impl Print,
+        shed: &mut Shed<'_, T, W>,
+        steps: &[Step],
+    ) -> io::Result<Pair<T>>
         ensures { Run (ways T.written T.refuses W.rule) (world_of W.means shed.old) → IfOk result (λ v. (s t : Told T) → v.0 ≡ Some s → v.1 ≡ Some t → s.ticket ≡ t.ticket) }
     {
-        self.run(rt, shed)?;
+        self.run(rt, shed, steps)?;
         let first = announce(rt, shed, 0)?;
         let second = announce(rt, shed, 2)?;
         Ok((first, second))
@@ -133,7 +143,7 @@ impl<T: Ticket + Drop> Week<T> {
         ensures { IfOk result (λ v. (s t : Told T) → v.0 ≡ Some s → v.1 ≡ Some t → s.ticket ≡ t.ticket) }
     {
         match Shed::make(mill_table(), FALSE_UNITS, units, wire) {
-            Ok(mut shed) => self.compare(rt, &mut shed),
+            Ok(mut shed) => self.compare(rt, &mut shed, &WEEK),
             Err(fault) => {
                 println!(rt; "{}", fault.code())?;
                 Ok((None, None))
