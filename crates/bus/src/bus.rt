@@ -59,15 +59,16 @@ impl<'a> Bus<'a> {
         wire::send_all(self, from, n, packet)
     }
 
-    // How many packets wait for the unit: a walk over the used slots.
+    // How many packets wait for the unit: a walk over the used slots. (Tried as a filter that is counted: twice the time.)
     fn waiting_for(&self, unit: u32) -> usize
         ensures exact { result ≡ length ((means_of self.now).waiting unit) }
         ensures some { result ≤ self.now.used }
     {
-        self.slots[..self.used]
-            .iter()
-            .filter(|slot| slot.to == unit)
-            .count()
+        let mut waiting = 0;
+        for slot in &self.slots[..self.used] {
+            waiting += usize::from(slot.to == unit);
+        }
+        waiting
     }
 
     // The index of the slot with the packet that waits for the unit at the place; none where none waits.

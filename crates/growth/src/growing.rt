@@ -45,12 +45,19 @@ impl Heard<'_> {
             .any(|quorum| sets::inside(quorum.set, filled))
     }
 
-    // Does the quorum meet the rule at its place?
+    // Was the quorum heard entire as the rule asks at its place?
+    fn entire(&self, rule: Rule, p: u32, quorum: Quorum) -> bool
+        ensures { Decides result (Inside (Has quorum.set) (λ x. Holds (row_in self.now.rows.now x) (Needed rule p self.now.ticket))) }
+    {
+        let so = senders(self.rows, test_of(rule, p), self.ticket);
+        sets::inside(quorum.set, so)
+    }
+
+    // Does the quorum meet the rule at its place? The class is asked first: the rows are walked only where the rule is for it.
     fn meets(&self, rule: Rule, p: u32, quorum: Quorum) -> bool
         ensures { Decides result (Ranked rule quorum.class × Inside (Has quorum.set) (λ x. Holds (row_in self.now.rows.now x) (Needed rule p self.now.ticket))) }
     {
-        let so = senders(self.rows, test_of(rule, p), self.ticket);
-        ranked(rule, quorum.class) && sets::inside(quorum.set, so)
+        ranked(rule, quorum.class) && self.entire(rule, p, quorum)
     }
 
     // Does some quorum meet the rule?

@@ -1,6 +1,6 @@
 -- One step of a walk over a report's entries.
 use Rattle.std.proofs.Common.{set, append_assoc, ◌++◌, take, ◌≡◌, ℕ, zero, suc, ◌+◌, ◌-◌, ◌<◌, ◌≤◌, cond, List, [], ◌∷◌, length, get_or, Some, None, Option, sym, refl, ap, ◌∙◌, ap₂, arith}
-use Rattle.std.proofs.lemmas.List.{take_more_set, append-nil, take_all}
+use Rattle.std.proofs.lemmas.List.{take_more_set, append-nil, take_all, get_or_past, ext_get_or}
 use Rattle.packet.specs.declared.fault.PacketFault.{PacketFault}
 use Rattle.rows.specs.declared.row.Row.{Row}
 use Rattle.packet.specs.Said.{next, row_at, entry_at, entries_at, padded}
@@ -63,6 +63,9 @@ unfolding entries_at
 entries_length bs zero i = refl
 entries_length bs (suc n) i = ap suc (entries_length bs n (next bs i))
 
+pub entry_past : (bs : List ℕ) (n v i : ℕ) → n ≤ v → get_or (entries_at bs n i) v None ≡ None
+entry_past bs n v i h = get_or_past (entries_at bs n i) v None (omega (arith, entries_length bs n i))
+
 -- what an iterator of entries has left
 abbrev pub entries_left : Entries → List (Option Row)
 entries_left s = entries_at s.bytes.now s.left s.at
@@ -96,6 +99,24 @@ flat_row (Some row) = refl
 -- the entry of a view is that many after the first
 pub entry_nth : (es : List (Option Row)) (k : ℕ) (e : Option (Option Place)) → option_map row_of e ≡ slice_get es k → row_of (option_flatten e) ≡ get_or es k None
 entry_nth es k e h = flat_row e ∙ ap option_flatten h ∙ flat_get es k
+
+-- padded has as many entries as asked, each that of the list, and is the one list with them
+pub length_padded : (n : ℕ) (es : List (Option Row)) → length (padded n es) ≡ n
+unfolding padded
+length_padded zero es = refl
+length_padded (suc n) [] = ap suc (length_padded n [])
+length_padded (suc n) (e ∷ es) = ap suc (length_padded n es)
+
+pub get_or_padded : (n : ℕ) (es : List (Option Row)) (k : ℕ) → k < n → get_or (padded n es) k None ≡ get_or es k None
+unfolding padded
+get_or_padded zero es k h = absurd (omega arith)
+get_or_padded (suc n) [] zero h = refl
+get_or_padded (suc n) [] (suc k) h = get_or_padded n [] k (omega arith)
+get_or_padded (suc n) (e ∷ es) zero h = refl
+get_or_padded (suc n) (e ∷ es) (suc k) h = get_or_padded n es k (omega arith)
+
+pub is_padded : (rows : List (Option Row)) (n : ℕ) (es : List (Option Row)) → length rows ≡ n → ((k : ℕ) → k < n → get_or rows k None ≡ get_or es k None) → rows ≡ padded n es
+is_padded rows n es l f = ext_get_or None rows (padded n es) (l ∙ sym (length_padded n es)) (λ k h. f k (omega arith) ∙ sym (get_or_padded n es k (omega arith)))
 
 -- the next entry is the first of the padded ones
 pub padded_next : (n : ℕ) (s t : Entries) (e : Option (Option Place)) → NextEntry s e t → padded (suc n) (entries_left s) ≡ row_of (option_flatten e) ∷ padded n (entries_left t)

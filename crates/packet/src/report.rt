@@ -22,6 +22,10 @@ impl<'a> Report<'a> {
     pub fn entry(&self, view: u32) -> Option<Row>
         ensures { result ≡ slice_index_or (entries_of self.now) view None }
     {
+        // at and above the report's view no entry is walked
+        if view >= self.view() {
+            return None;
+        }
         self.iter()
             .nth(view as usize)
             .flatten()

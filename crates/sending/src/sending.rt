@@ -84,6 +84,23 @@ fn rows_fit(rows: &[Option<Row>; VIEW_COUNT])
     }
 }
 
+// Its report, if it is wanted: its rows are read only then.
+fn send_report<W: Wire>(wire: &mut W, me: u32, unit: &ControlUnit, wanted: bool) -> Tally
+    requires { me < (W.means wire.old).served }
+    ensures { Went W.rule (W.means wire.old).served me (only_if wanted (report_said (state_of unit.now))) (W.means wire.old) (W.means wire.new) result }
+{
+    if !wanted {
+        return Tally { laid: 0, lost: 0 };
+    }
+    let rows = unit.report();
+    rows_fit(&rows);
+    let report = Letter::Report {
+        view: unit.view(),
+        rows: &rows,
+    };
+    send(wire, me, Some(report))
+}
+
 // What a unit sends goes out in order: its put, its row, its report.
 pub fn go_out<W: Wire>(wire: &mut W, me: u32, unit: &ControlUnit, sends: Sends) -> Tally
     requires named { me < (W.means wire.old).served }
@@ -91,15 +108,9 @@ pub fn go_out<W: Wire>(wire: &mut W, me: u32, unit: &ControlUnit, sends: Sends) 
     ensures out { GoesOut W.rule (W.means wire.old).served me (outgoing sends (state_of unit.now)) (W.means wire.old) (W.means wire.new) result.laid result.lost }
     ensures served { (W.means wire.new).served ≡ (W.means wire.old).served }
 {
-    let rows = unit.report();
-    rows_fit(&rows);
-    let report = Letter::Report {
-        view: unit.view(),
-        rows: &rows,
-    };
     let put = send(wire, me, put_letter(unit, sends.put));
     let row = send(wire, me, row_letter(unit, sends.row));
-    let report = send(wire, me, sends.report.then_some(report));
+    let report = send_report(wire, me, unit, sends.report);
     Tally {
         laid: put.laid + (row.laid + report.laid),
         lost: put.lost + (row.lost + report.lost),

@@ -1,6 +1,6 @@
 // Four units driven by hand: a put, its rows, the announcements, and the lead passed on.
 use base::Fault;
-use std::{array, io};
+use std::io;
 use table::Passed;
 use ticket::Writing;
 use unit::{ControlUnit, Letter, Sends, UnitFault};
@@ -56,7 +56,13 @@ fn show_action(rt: &impl Print, what: &str, did: Result<Sends, UnitFault>) -> io
 
 // Unit 0 leads view 0 and puts; units 0 to 2 hear the put, the others do not.
 pub fn show_units(rt: &impl Print, passed: &Passed<'_>, ticket: Writing) -> io::Result<()> {
-    let mut units: [ControlUnit; 4] = array::from_fn(|_| ControlUnit::fresh());
+    // written out: made by `from_fn`, the units are filled with nothing first and then moved
+    let mut units = [
+        ControlUnit::fresh(),
+        ControlUnit::fresh(),
+        ControlUnit::fresh(),
+        ControlUnit::fresh(),
+    ];
     show_action(rt, "unit 1 puts in view 0", units[1].put(passed, 1, ticket))?;
     show_action(rt, "unit 0 puts in view 0", units[0].put(passed, 0, ticket))?;
     show_action(rt, "unit 0 puts again", units[0].put(passed, 0, ticket))?;

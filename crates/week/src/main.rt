@@ -9,7 +9,7 @@ mod week;
 use boxes::Boxes;
 use bus::{Bus, BusSlot};
 use mill::{change_table, check_tables, rose_damask, show_tickets, show_wires};
-use std::{array, io};
+use std::io;
 use ticket::{Order, Pick, Plan, Ticket};
 use unit::ControlUnit;
 use week::{Pair, Week};
@@ -64,7 +64,13 @@ fn main(rt: HostRuntime) -> io::Result<()> {
     show_tickets(&rt)?;
     let order = rose_damask();
     show_wires(&rt, order.writing())?;
-    let mut units: [ControlUnit; 4] = array::from_fn(|_| ControlUnit::fresh());
+    // written out: made by `from_fn`, the units are filled with nothing first and then moved
+    let mut units = [
+        ControlUnit::fresh(),
+        ControlUnit::fresh(),
+        ControlUnit::fresh(),
+        ControlUnit::fresh(),
+    ];
     println!(rt; "sheds that are made or not")?;
     refusals::show_makings(&rt, &mut units)?;
     println!(rt; "a shed over boxes with one place for each unit")?;
