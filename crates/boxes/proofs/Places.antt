@@ -1,7 +1,7 @@
 -- Where a unit's places lie, and what its slots hold before and after a call.
-use Rattle.std.proofs.Common.{◌≡◌, ℕ, ◌+◌, ◌-◌, ◌*◌, ◌<◌, ◌≤◌, ◌≢◌, ◌⊎◌, List, [], ◌∷◌, ◌++◌, map, length, get_or, set, sym, refl, ap, ◌∙◌, ap₂, inl, inr, ⊎_elim, mul-le-mul_right, suc-mul, arith}
+use Rattle.std.proofs.Common.{◌≡◌, ℕ, ◌+◌, ◌-◌, ◌*◌, ◌<◌, ◌≤◌, ◌≢◌, ◌⊎◌, List, [], ◌∷◌, ◌++◌, map, length, get_or, set, take, drop, sym, refl, ap, ◌∙◌, ap₂, inl, inr, ⊎_elim, mul-le-mul_right, suc-mul, arith}
 use Rattle.std.specs.List.{copy_within, remove}
-use Rattle.std.proofs.lemmas.List.{length-take, length-drop, length-map, get_or-set_same, get_or-set_other, map_push}
+use Rattle.std.proofs.lemmas.List.{length-take, length-drop, length-map, get_or-set_same, get_or-set_other, map_push, drop-set-add, drop-set-lt, take_more_set, take-set-le}
 use Rattle.std.proofs.lemmas.Bool.{cases_lt}
 use Rattle.wire.specs.Calls.{Posted, Dropped}
 use Rattle.wire.specs.Meaning.{parcel}
@@ -13,8 +13,35 @@ use Rattle.boxes.specs.Rooms.{OwnPlaces}
 use Rattle.boxes.specs.Store.{waits, kept_in, means_of}
 
 -- a lower unit's places end before a higher unit's begin
-apart : (u v places : ℕ) → u < v → u * places + places ≤ v * places
+pub apart : (u v places : ℕ) → u < v → u * places + places ≤ v * places
 apart u v places h = rw suc-mul at (mul-le-mul_right places h)
+
+-- a write and a count, of any slots
+module _ (slots : List Slot) (counts : List ℕ) (places : ℕ) where
+  -- a packet laid at the unit's first free place, and one more counted
+  pub laid_here : (u : ℕ) (s : Slot) → u < length counts → u * places + get_or counts u 0 < length slots → waits (set slots (u * places + get_or counts u 0) s) (set counts u (get_or counts u 0 + 1)) places u ≡ waits slots counts places u ++ (parcel_of s ∷ [])
+  laid_here u s hu h =
+      let n = get_or counts u 0 in
+      let b = u * places in
+      let room : n < length (drop b slots) = simp length-drop (omega arith) in
+      ap₂ (λ m xs. map parcel_of (take m xs)) (get_or-set_same counts u (n + 1) 0 hu) (drop-set-add b slots n s)
+      ∙ ap (map parcel_of) (take_more_set (drop b slots) n s room)
+      ∙ map_push parcel_of (take n (drop b slots)) s
+
+  -- a write within one unit's places leaves the packets of another
+  pub left_there : (u k m v : ℕ) (s : Slot) → k < places → get_or counts v 0 ≤ places → v ≢ u → waits (set slots (u * places + k) s) (set counts u m) places v ≡ waits slots counts places v
+  left_there u k m v s hk hv ne =
+      let i = u * places + k in
+      let n = get_or counts v 0 in
+      let below : u < v → take n (drop (v * places) (set slots i s)) ≡ take n (drop (v * places) slots) =
+      λ h. ap (take n) (drop-set-lt (v * places) slots i s (omega (arith, apart u v places h))) in
+      let above : v < u → take n (drop (v * places) (set slots i s)) ≡ take n (drop (v * places) slots) =
+      λ h.
+      let far : n ≤ i - v * places = omega (arith, apart v u places h) in
+      let there : v * places + (i - v * places) ≡ i = omega (arith, apart v u places h) in
+      ap (λ j. take n (drop (v * places) (set slots j s))) (sym there) ∙ ap (take n) (drop-set-add (v * places) slots (i - v * places) s) ∙ take-set-le n (drop (v * places) slots) (i - v * places) s far in
+      let sides : (u < v) ⊎ (v < u) = ⊎_elim inl (λ h. inr (omega arith)) (cases_lt u v) in
+      ap (λ m. map parcel_of (take m (drop (v * places) (set slots i s)))) (get_or-set_other counts u v m 0 ne) ∙ ap (map parcel_of) (⊎_elim below above sides)
 
 -- a unit's packets and free places are together its places
 pub own_places : (slots : List Slot) (counts : List ℕ) (units places : ℕ) → units * places ≤ length slots → ((u : ℕ) → get_or counts u 0 ≤ places) → OwnPlaces places (kept_in slots counts units places)

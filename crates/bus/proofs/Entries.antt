@@ -94,6 +94,15 @@ every (x ∷ xs) n within =
     let both = sum_add (λ u. length (map packet_of (kept_by (is_for u) (x ∷ xs)))) (λ u. cond (eqb x.to u) 1 0) (λ u. length (map packet_of (kept_by (is_for u) xs))) n split in
     omega arith
 
+pub all_used : (slots : List BusSlot) (used n : ℕ) → used ≤ length slots → ((k : ℕ) (d : BusSlot) → k < used → (get_or slots k d).to < n) → sum_below (λ u. length (waits slots used u)) n ≡ used
+all_used slots used n room within =
+    let l = length-take-le used slots room in
+    every (take used slots) n (λ k d h. let k-used : k < used = omega arith in subst (λ (s : BusSlot). s.to < n) (sym (get_or-take used slots k d k-used)) (within k d k-used)) ∙ l
+
+-- the places are those free and those used
+pub shared : (slots : List BusSlot) (used n places : ℕ) → places ≤ length slots → used ≤ places → ((k : ℕ) (d : BusSlot) → k < used → (get_or slots k d).to < n) → places - used + sum_below (λ u. length (waits slots used u)) n ≡ places
+shared slots used n places memory under within = let s = all_used slots used n (omega arith) within in omega arith
+
 -- the places are those free and those used
 pub shared_places : (slots : List BusSlot) (used units places : ℕ) → places ≤ length slots → used ≤ places → ((k : ℕ) (d : BusSlot) → k < used → (get_or slots k d).to < units) → SharedPlaces places (kept_in slots used units places)
 shared_places slots used units places memory under within u served =

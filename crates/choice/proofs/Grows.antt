@@ -59,7 +59,7 @@ module _ (tb : QuorumTable) (q : ℕ) (kept : Grid) (w v x : ℕ) where
       ]
 
   module _ (c : Choice Writing) (k : Chosen (Seen tb q kept w v x) c) where
-    skips : ((t : Writing) → Last t → ⊥) → Chosen (Seen tb q kept w v (x + 1)) c
+    pub skips : ((t : Writing) → Last t → ⊥) → Chosen (Seen tb q kept w v (x + 1)) c
     skips none =
         chosen_as (Seen tb q kept w v x) (Seen tb q kept w v (x + 1)) seen_more
         (λ t s. elim (seen_last t s) [ inl l ↦ l | inr h ↦ absurd (none t h) ]) c k

@@ -3,7 +3,7 @@ use Rattle.std.proofs.Common.{◌≡◌, ℕ, ◌+◌, ◌<◌, Bool, ◌⊎◌,
 use native.Mathlib.Decide.{ℕ_discrete}
 use Rattle.std.proofs.lemmas.Bool.Decides.{Decides-like}
 use Rattle.sets.specs.Sets.{Has, Set, Is, Bearable, Basic, fault_at}
-use Rattle.sets.proofs.Bits.{has?}
+use Rattle.sets.proofs.Bits.{has?, none_has}
 use Rattle.sets.proofs.Sides.{basic_more}
 use Rattle.ticket.specs.declared.writing.Writing.{Writing}
 use Rattle.rows.specs.declared.row.Row.{Row}
@@ -38,6 +38,9 @@ part_tells faults p s m is r =
 
 -- later views, one by one: the rows of view v + 1 + i stand at place i of those after view v
 module _ (kept : Grid) (v : ℕ) (t : Writing) where
+  pub later_none : Is 0 (Later kept (v + 1) v t)
+  later_none x = (λ h. absurd (none_has x h), λ k. let a = k.1 in let b = k.2 in absurd (omega arith))
+
   after : (d i : ℕ) → i < length (take d (drop (v + 1) kept)) → get_or (take d (drop (v + 1) kept)) i [] ≡ get_or kept (v + 1 + i) []
   after d i lt = let h : i < d = omega (arith, length-take d (drop (v + 1) kept)) in rw (get_or-take, get_or-drop)
 

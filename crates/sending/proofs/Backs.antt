@@ -22,13 +22,13 @@ unfoldable pub AllFit : List (Option Row) → Type 0
 AllFit [] = Unit {0}
 AllFit (e ∷ es) = EntryFits e × AllFit es
 
-put_back : (v : ℕ) (t : Writing) → v < 2 ^ 32 → Words t → handed (packet_said (says_put v t)) ≡ says_put v t
+pub put_back : (v : ℕ) (t : Writing) → v < 2 ^ 32 → Words t → handed (packet_said (says_put v t)) ≡ says_put v t
 unfolding said_by writing
 put_back v t h f =
     let bs = writing (says_put v t) in
     ap heard_as (ap₂ says_put (word_of v h) (ticket_here bs [] 8 t f refl))
 
-row_back : (v : ℕ) (r : Row) → v < 2 ^ 32 → RowFits r → handed (packet_said (says_row v r)) ≡ says_row v r
+pub row_back : (v : ℕ) (r : Row) → v < 2 ^ 32 → RowFits r → handed (packet_said (says_row v r)) ≡ says_row v r
 unfolding said_by writing
 row_back v r h f =
     let bs = writing (says_row v r) in
