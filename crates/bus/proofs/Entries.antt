@@ -39,7 +39,7 @@ module _ (b : Bus) (u place i : ℕ) (at : Stands b.slots.now b.used u place i) 
   room : b.used ≤ length b.slots.now
   room = omega (arith, b.memory, b.within)
 
-  inside : i < b.used
+  pub inside : i < b.used
   inside = omega (arith, length-take-le b.used b.slots.now room, ap length at.whole, length-append at.before (at.slot ∷ at.after), at.index)
 
   here : (d : BusSlot) → get_or b.slots.now i d ≡ at.slot
@@ -57,10 +57,10 @@ module _ (b : Bus) (u place i : ℕ) (at : Stands b.slots.now b.used u place i) 
       ∙ ap packet_of (ap (λ l. get_or l place d) around ∙ get_or_at (kept_by (is_for u) at.before) at.slot _ d place at.earlier ∙ sym (here d))
 
   -- the later ones moved down over it
-  module _ (t : List BusSlot) (moved : t ≡ copy_within b.slots.now (i + 1) b.used i) where
+  module _ (t : List BusSlot) (end : ℕ) (all : end ≡ b.used) (moved : t ≡ copy_within b.slots.now (i + 1) end i) where
     rest : take (b.used - 1) t ≡ at.before ++ at.after
     rest =
-        row_less b.slots.now t 0 i b.used i b.used inside (rw zero-add room) (sym (zero-add i)) (sym (zero-add b.used)) moved
+        row_less b.slots.now t 0 i b.used i end inside (rw zero-add room) (sym (zero-add i)) (all ∙ sym (zero-add b.used)) moved
         ∙ ap₂ remove at.whole (sym at.index)
         ∙ removed_at at.before at.slot at.after
 
